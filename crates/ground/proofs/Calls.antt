@@ -1,0 +1,40 @@
+-- Laws of every call, whatever its plan: what refuses it, what a refusal leaves, and that nothing else could meet its promise.
+use mathlib.Core.Path.{_≡_, refl, sym, _∙_}
+use mathlib.Core.Logic.{_↔_}
+use mathlib.Core.Bool.{Bool, true, false, cond}
+use mathlib.Core.List.{List, [], _∷_}
+use Prim.Native.Nat.{ℕ}
+use native.Mathlib.Omega.{arith}
+use Rattle.ground.specs.Calls.{Case, Plan, Reply, refused, decide, answer, leaves, memory, Promise, Given, here, later}
+
+-- The pinned law: any two answers and memories that meet a promise are the same.
+pub pinned : {A : Type 0} {p : Plan A} {old : A} {r s : Reply} {m w : A} → Promise p old r m → Promise p old s w → (r ≡ s) × (m ≡ w)
+pinned a b = (a .answers ∙ sym (b .answers), a .lent ∙ sym (b .lent))
+
+leaves-refused : {A : Type 0} (r : Reply) (n v : ℕ) (old new : A) → r ≡ refused n v → leaves r old new ≡ old
+unfolding leaves
+leaves-refused r n v old new e = rw e
+
+-- A refusal leaves every word and byte.
+pub refusal-keeps : {A : Type 0} (p : Plan A) (m : A) (n v : ℕ) → answer p ≡ refused n v → memory p m ≡ m
+unfolding memory
+refusal-keeps p m n v e = leaves-refused (answer p) n v m (p .after) e
+
+given-refuses : (cs : List Case) (w n v : ℕ) → Given n v cs → decide cs w ≡ refused n v
+unfolding decide
+given-refuses (c ∷ cs) w n v (here t e f) = rw (t, e, f)
+given-refuses (c ∷ cs) w n v (later t g) = rw t (given-refuses cs w n v g)
+
+refused-given : (cs : List Case) (w n v : ℕ) → decide cs w ≡ refused n v → Given n v cs
+unfolding decide
+refused-given [] w n v e = absurd (let z : _≡_ {A = ℕ} 0 1 = cc in omega arith)
+refused-given (c ∷ cs) w n v e = go (c .test) refl e (refused-given cs w n v)
+  where
+    go : (b : Bool) → c .test ≡ b → cond b (refused (c .number) (c .value)) (decide cs w) ≡ refused n v → (decide cs w ≡ refused n v → Given n v cs) → Given n v (c ∷ cs)
+    go true t h f = here {c = c} t (cc) (cc)
+    go false t h f = later t (f h)
+
+-- A call is refused with a number and a value exactly when the first case given has them.
+pub refused-exactly : {A : Type 0} (p : Plan A) (n v : ℕ) → (answer p ≡ refused n v) ↔ Given n v (p .cases)
+unfolding answer
+refused-exactly p n v = (refused-given (p .cases) (p .value) n v, given-refuses (p .cases) (p .value) n v)

@@ -1,0 +1,2 @@
+-- Document 01, "Kits and bins".
+pub mod Kits
