@@ -20,11 +20,11 @@ mostParts = 255
 unfoldable pub registerLength : List ℕ → Bool
 registerLength R = every (isZero (length R % slotBytes) ∷ (leb slotBytes (length R) ∷ (leb (length R) (mostParts * slotBytes) ∷ [])))
 
-unfoldable pub slotCount : List ℕ → ℕ
+abbrev pub slotCount : List ℕ → ℕ
 slotCount R = length R / slotBytes
 
 -- the slots are counted from 0
-unfoldable pub slotsOf : List ℕ → List ℕ
+abbrev pub slotsOf : List ℕ → List ℕ
 slotsOf R = from 0 (slotCount R)
 
 -- "length, the number, then zeros"

@@ -10,8 +10,8 @@ ghost use Rattle.ground.specs.Lists.{allb, distinct, eqList, firstOr, from, isZ
 ghost use Rattle.ground.specs.Laid.{laid};
 ghost use Rattle.ground.specs.Stretch.{Stretch};
 ghost use Rattle.ground.specs.Calls.{Promise, answer};
-ghost use Rattle.register.specs.Number.{between, goodByte, goodNumber};
-ghost use Rattle.register.specs.Register.{slotAt, slotOf, slotCount, slotGood, unusedAt, numberAt, partsOf, registerLength, registerSound};
+ghost use Rattle.register.specs.Number.{longestNumber, between, goodByte, goodNumber};
+ghost use Rattle.register.specs.Register.{slotBytes, mostParts, slotAt, slotOf, slotCount, slotGood, unusedAt, numberAt, partsOf, registerLength, registerSound};
 ghost use Rattle.register.specs.Calls.{registering, lookingUp, showing, stretchFrom, stretchSize, registeredReply, lookedReply, shownReply};
 ghost use Rattle.register.specs.Inner.{goodAt, holdsAt, Short, Ready, leading};
 use ground::copy_in;
@@ -120,7 +120,7 @@ pub fn length_good(reg: &[u8]) -> bool
 
 // How many slots there are.
 pub fn count_slots(reg: &[u8]) -> usize
-    ensures { λ r. ⌜ r ≡ slotCount (now (reg .entry)) ⌝ ∗ ⌜ r * 32 ≤ length (now (reg .entry)) ⌝ }
+    ensures { λ r. ⌜ r ≡ slotCount (now (reg .entry)) ⌝ ∗ ⌜ r * slotBytes ≤ length (now (reg .entry)) ⌝ }
 {
     reg.len() / SLOT_BYTES
 }
@@ -128,15 +128,15 @@ pub fn count_slots(reg: &[u8]) -> usize
 // The length byte of slot k.
 fn length_at(reg: &[u8], k: usize) -> usize
     requires { ⌜ k < slotCount (now reg) ⌝ }
-    ensures { λ r. ⌜ r ≡ getD (now (reg .entry)) (k * 32) 0 ⌝ ∗ ⌜ r < 256 ⌝ }
+    ensures { λ r. ⌜ r ≡ getD (now (reg .entry)) (k * slotBytes) 0 ⌝ ∗ ⌜ r < 256 ⌝ }
 {
     wide8(reg[k * SLOT_BYTES])
 }
 
 // The number in slot k, as the stretch that holds it.
 fn number_at(reg: &[u8], k: usize) -> &[u8]
-    requires { ⌜ k < slotCount (now reg) ⌝ ∗ ⌜ getD (now reg) (k * 32) 0 ≤ 24 ⌝ }
-    ensures { λ r. ⌜ Stretch (reg .entry) r (k * 32 + 1) (getD (now (reg .entry)) (k * 32) 0) ⌝ }
+    requires { ⌜ k < slotCount (now reg) ⌝ ∗ ⌜ getD (now reg) (k * slotBytes) 0 ≤ longestNumber ⌝ }
+    ensures { λ r. ⌜ Stretch (reg .entry) r (k * slotBytes + 1) (getD (now (reg .entry)) (k * slotBytes) 0) ⌝ }
 {
     let start = k * SLOT_BYTES + 1;
     let end = start + length_at(reg, k);
@@ -145,7 +145,7 @@ fn number_at(reg: &[u8], k: usize) -> &[u8]
 
 // Whether a slot holds a good number followed by zeros.
 fn slot_good(s: &[u8]) -> bool
-    requires { ⌜ length (now s) ≡ 32 ⌝ }
+    requires { ⌜ length (now s) ≡ slotBytes ⌝ }
     ensures { λ r. ⌜ r ≡ slotGood (now (s .entry)) ⌝ }
 {
     let n = wide8(s[0]);
@@ -240,15 +240,15 @@ pub fn register_sound(reg: &[u8]) -> bool
 // How many parts are registered.
 pub fn count_parts(reg: &[u8]) -> usize
     requires { ⌜ Ready (now reg) ⌝ }
-    ensures { λ r. ⌜ r ≡ length (partsOf (now (reg .entry))) ⌝ ∗ ⌜ r ≤ 255 ⌝ }
+    ensures { λ r. ⌜ r ≡ length (partsOf (now (reg .entry))) ⌝ ∗ ⌜ r ≤ mostParts ⌝ }
 {
     count_leading(reg)
 }
 
 // Sets slot k, which is all zero, to hold the number.
 fn put_slot(reg: &mut [u8], k: usize, num: &[u8])
-    requires { ⌜ k < slotCount (now reg) ⌝ ∗ ⌜ allb isZero (slotAt (now reg) k) ≡ true ⌝ ∗ ⌜ length (now num) ≤ 24 ⌝ }
-    ensures { λ _. ⌜ now (reg .exit) ≡ laid (now (reg .entry)) (k * 32) (slotOf (now (num .entry))) ⌝ }
+    requires { ⌜ k < slotCount (now reg) ⌝ ∗ ⌜ allb isZero (slotAt (now reg) k) ≡ true ⌝ ∗ ⌜ length (now num) ≤ longestNumber ⌝ }
+    ensures { λ _. ⌜ now (reg .exit) ≡ laid (now (reg .entry)) (k * slotBytes) (slotOf (now (num .entry))) ⌝ }
 {
     let at = k * SLOT_BYTES;
     reg[at] = num.len() as u8;

@@ -1,3 +1,4 @@
+use native.Mathlib.Omega.{arith}
 use borrow.Author.Needs.{needs}
 use Rattle.register.proofs.length_at.Statement.{statement}
 use Rattle.register.proofs.length_at.Tie as tie
@@ -7,11 +8,11 @@ use Rattle.ground.proofs.wide8.Reads as wide8-reads
 
 -- src/lib.rt:133:15
 mul-wide8 : tie.Need-mul-wide8
-mul-wide8 c = ?
+mul-wide8 c = omega arith
 
 -- src/lib.rt:133:11
 shared-slice-read-wide8 : tie.Need-shared-slice-read-wide8
-shared-slice-read-wide8 c = ?
+shared-slice-read-wide8 c = omega arith
 
 -- src/lib.rt:133:5
 wide8-requires : tie.Need-wide8-requires

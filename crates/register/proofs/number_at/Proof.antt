@@ -1,3 +1,10 @@
+use mathlib.Core.Path.{_≡_, ap, sym, _∙_, refl}
+use mathlib.Core.Bool.{Bool, true, false, _&&_, cond, not}
+use mathlib.Core.List.{List, [], _∷_, _++_, map}
+use Prim.Native.Nat.{ℕ, _≤_, _<_, _-_, _+_, _*_, _/_, _%_, suc}
+use lib.ListN.{length, getD, drop, take, set, replicate}
+use borrow.Author.Tests.{le-leb, lt-leb, eq-eqb, ne-eqb, lt-ltb, le-ltb, not-true, not-false, eqb-true, leb-true, ltb-true}
+use native.Mathlib.Omega.{arith}
 use borrow.Author.Needs.{needs}
 use Rattle.register.proofs.number_at.Statement.{statement}
 use Rattle.register.proofs.number_at.Tie as tie
@@ -7,11 +14,11 @@ use Rattle.register.proofs.length_at.Reads as length-at-reads
 
 -- src/lib.rt:141:17
 mul-start : tie.Need-mul-start
-mul-start c = ?
+mul-start c = omega arith
 
 -- src/lib.rt:141:17
 add-start : tie.Need-add-start
-add-start c = ?
+add-start c = omega arith
 
 -- src/lib.rt:142:23
 length-at-requires : tie.Need-length-at-requires
@@ -19,7 +26,7 @@ length-at-requires c κs = search needs
 
 -- src/lib.rt:142:15
 add-end : tie.Need-add-end
-add-end c = ?
+add-end c = omega arith
 
 -- src/lib.rt:143:5
 sub-result : tie.Need-sub-result
@@ -31,11 +38,15 @@ part-result-start c = search needs
 
 -- src/lib.rt:143:5
 part-result-end : tie.Need-part-result-end
-part-result-end c = ?
+part-result-end c = omega arith
 
 -- src/lib.rt:137:1
 returns : tie.Need-returns
-returns c = ?
+returns c =
+    let n = c .before .length-at .result in
+    let a = c .before .before .before .args .k * 32 + 1 in
+    let e : a + n - a ≡ n = omega arith in
+    record { block = refl; start = refl; holds = rw (e, c .before .length-at .ensures .0) }
 
 pub number-at-spec : {M : Type 1} → statement M
 number-at-spec =
