@@ -1,18 +1,17 @@
 -- Laws of single slots, of any bytes: what a slot's head, number and tail are, and when it holds a good number.
-use mathlib.Core.Path.{_≡_, ap, sym, _∙_, refl}
-use mathlib.Core.Bool.{Bool, true, false, _&&_, and-true, and-false}
-use mathlib.Core.List.{List, [], _∷_, _++_}
-use Prim.Native.Nat.{ℕ, zero, suc, min, _+_, _-_, _*_, _/_, _≤_, _<_}
+use mathlib.Core.Path.{_≡_, sym, _∙_, refl}
+use mathlib.Core.Bool.{true, false, and-true, and-false}
+use mathlib.Core.List.{List, [], _∷_}
+use Prim.Native.Nat.{ℕ, min, _+_, _-_, _*_, _≤_, _<_}
 use native.Mathlib.Nat.{add-zero}
 use native.Mathlib.Omega.{arith}
-use lib.ListN.{length, getD, drop, take, replicate, length-take, length-drop}
+use lib.ListN.{length, getD, drop, take, length-take, length-drop}
 use lib.Seq.{getD-take, getD-drop, drop-drop, take-take}
-use lib.Dec.{leb}
 use borrow.Author.Tests.{le-leb, lt-leb, leb-true, eq-eqb, ne-eqb}
 use Rattle.ground.specs.Lists.{allb, every, isZero}
-use Rattle.ground.proofs.Laws.{and-left, and-right, every-at}
+use Rattle.ground.proofs.Laws.{every-at}
 use Rattle.register.specs.Number.{goodByte, goodNumber}
-use Rattle.register.specs.Register.{slotAt, slotCount, slotGood, numberIn, numberAt, unusedAt, registerLength}
+use Rattle.register.specs.Register.{slotAt, slotCount, slotGood, numberIn, numberAt, unusedAt}
 
 -- The number rule: too short, too long, or as its bytes are
 module _ (n : List ℕ) where

@@ -16,12 +16,14 @@ ghost use Rattle.register.specs.Calls.{registering, lookingUp, showing, 
 ghost use Rattle.register.specs.Inner.{goodAt, holdsAt, Short, Ready, leading};
 use ground::copy_in;
 use ground::same;
-use ground::wide16;
 use ground::wide8;
+use ground::wide16;
 use ground::zeros;
 
 pub const SLOT_BYTES: usize = 32;
+
 pub const MOST_PARTS: usize = 255;
+
 pub const LONGEST_NUMBER: usize = 24;
 
 // What registering a number answers.
