@@ -4,3 +4,4 @@ pub mod Sound
 pub mod Places
 pub mod Entered
 pub mod Answers
+pub mod Laws
