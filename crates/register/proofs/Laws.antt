@@ -163,7 +163,7 @@ abbrev pub registered : List ℕ → List ℕ → List ℕ
 registered n R = memory (registering n R) R
 
 pub three-parts : (answer (registering n00741 (replicate 96 0)) ≡ done 1)
-  × (answer (registering n0741 (registered n00741 (replicate 96 0))) ≡ done 2)
-  × (answer (registering n741 (registered n0741 (registered n00741 (replicate 96 0)))) ≡ done 3)
+    × (answer (registering n0741 (registered n00741 (replicate 96 0))) ≡ done 2)
+    × (answer (registering n741 (registered n0741 (registered n00741 (replicate 96 0)))) ≡ done 3)
 unfolding answer decide memory leaves allb anyb every keep distinct concat eqList from laid goodByte goodNumber slotOf slotAt numberIn slotGood unusedAt usedAt numberAt partsOf usedHolds usedFirst unusedZero noneTwice registerSound registerLength placeFrom placeIn lentRegister numberRefusals registering
 three-parts = (refl, refl, refl)
