@@ -1,6 +1,6 @@
 """Requests that try the register's calls: fixed ones at every limit, and ones by chance."""
 
-from .frame import Request
+from .frame import ROOM, Request
 from .register import (
     LONGEST_NUMBER, MOST_SLOTS, NUMBER_BYTES, SLOT_BYTES, filled, numbers_of, right_length,
     slot_for, sound)
@@ -24,16 +24,30 @@ def many_numbers(count):
     return [b"%05d" % (7 * at) for at in range(count)]
 
 
-def fixed():
+def limits():
     """Every limit of the register and of a part number."""
     yield from number_lengths()
-    yield from number_bytes()
     yield from register_lengths()
-    yield from slot_contents()
     yield from slots_together()
     yield from full_registers()
     yield from places()
     yield from alike_numbers()
+
+
+def sweeps():
+    """Every byte value in a number and in a slot."""
+    yield from number_bytes()
+    yield from slot_contents()
+
+
+def large():
+    """Registers and numbers as large as the probe has room for."""
+    yield Request("p", R=bytes(SLOT_BYTES), I=b"7" * ROOM["I"], note="a number of 65,536 bytes")
+    yield Request("l", R=slot_for(b"7"), I=b"7" * ROOM["I"], note="a number of 65,536 bytes")
+    for letter in "pln":
+        for length in (8128, 8159, ROOM["R"]):
+            yield Request(letter, 1, R=filled([b"A"], 257)[:length], I=b"A",
+                          note="register of %d bytes" % length)
 
 
 def number_lengths():
@@ -244,13 +258,20 @@ def some_place(chance, used):
                         256 + used, chance.pick(PLACES)))
 
 
-def by_chance(letter, chance):
-    """A request for this call."""
-    register = some_register(chance)
-    numbers = numbers_of(register)
-    if chance.below(10) < 4:
-        for _ in range(chance.pick((1, 1, 1, 2))):
-            if right_length(register) and sound(register):
-                register = damaged_register(chance, register)
-    number = some_number(chance, numbers)
-    return Request(letter, some_place(chance, len(numbers)), R=register, I=number)
+class Maker:
+    """Makes requests by chance."""
+
+    def __init__(self, chance):
+        self.chance = chance
+
+    def by_chance(self, letter):
+        """A request for this call."""
+        chance = self.chance
+        register = some_register(chance)
+        numbers = numbers_of(register)
+        if chance.below(10) < 4:
+            for _ in range(chance.pick((1, 1, 1, 2))):
+                if right_length(register) and sound(register):
+                    register = damaged_register(chance, register)
+        return Request(letter, some_place(chance, len(numbers)), R=register,
+                       I=some_number(chance, numbers))

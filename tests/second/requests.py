@@ -1,39 +1,72 @@
 """The requests that the probe is tried with: fixed, by chance, and broken ones."""
 
-from . import register_requests
+from . import index_requests, register_requests, sheet_requests
 from .chance import Chance
 from .frame import COUNT, REQUEST_BLOCKS, REQUEST_HEAD, ROOM, WORD_BLOCKS, Request
 
-# Who makes the requests of each letter: fixed ones for all its letters, one by chance for each.
+# Who makes the requests of each letter by chance. Each maker's fixed requests are its limits
+# (the document's own, each small), its sweeps (many values of one thing) and large ones.
 MAKERS = [
     ("pln", register_requests),
+    ("ekfdwcWC", index_requests),
+    ("sr", sheet_requests),
 ]
 
 # The blocks that each call uses; it must leave the others as they are.
 USES = {
-    "p": "RI", "l": "RI", "n": "RO",
+    "e": "RN", "p": "RI", "l": "RI", "n": "RO", "k": "RNL", "f": "RNL", "d": "RNL", "w": "RNL",
+    "c": "RNL", "W": "RNLP", "C": "RNLP", "s": "RNO", "r": "RNI",
 }
+
+# The calls with the most ways to go wrong are made more often.
+OFTEN = "kdWCr"
 
 # Bytes outside the printable ones, tried as letters.
 OTHER_LETTERS = bytes([0, 1, 10, 13, 31, 127, 128, 255])
 
 
-def fixed(letters):
-    """The fixed requests for these letters."""
-    for made, maker in MAKERS:
-        if any(letter in letters for letter in made):
-            for request in maker.fixed():
-                if request.letter in letters:
-                    yield request
+def limits(letters):
+    """The limits for these letters."""
+    return chosen(letters, "limits")
+
+
+def sweeps(letters):
+    """The sweeps for these letters."""
+    return chosen(letters, "sweeps")
+
+
+def large(letters):
+    """The large requests for these letters."""
+    return chosen(letters, "large")
+
+
+def chosen(letters, kind):
+    """The fixed requests of one kind for these letters, from every maker."""
+    for _, maker in MAKERS:
+        for request in getattr(maker, kind)():
+            if request.letter in letters:
+                yield request
+
+
+def one_of_each(row):
+    """Of the requests that try the same thing one each, by one letter after the other."""
+    same = {}
+    for request in row:
+        same.setdefault(request.note, []).append(request)
+    return [group[turn % len(group)] for turn, group in enumerate(same.values())]
 
 
 def by_chance(letters, seed, count):
     """So many requests by chance for these letters; the blocks not used hold anything."""
     chance = Chance(seed)
-    makers = {letter: maker for made, maker in MAKERS for letter in made}
+    makers = {}
+    for made, module in MAKERS:
+        maker = module.Maker(chance)
+        makers.update((letter, maker) for letter in made)
+    drawn = letters + "".join(letter for letter in letters if letter in OFTEN) * 2
     for _ in range(count):
-        letter = chance.pick(letters)
-        request = makers[letter].by_chance(letter, chance)
+        letter = chance.pick(drawn)
+        request = makers[letter].by_chance(letter)
         for name in REQUEST_BLOCKS:
             if name not in USES[letter] and not request.blocks[name] and chance.one_in(2):
                 request.blocks[name] = some_block(chance, name)
