@@ -1,2 +1,4 @@
 -- Document 01, "Kits and bins".
 pub mod Kits
+pub mod Checks
+pub mod Rows
