@@ -15,6 +15,7 @@ use Rattle.ground.proofs.Laws.{same-cases}
 use Rattle.kits.specs.Kits.{mostUnits, before, begins, agreed, linesFrom, listOf}
 use Rattle.kits.specs.Rows.{rowOf, unitsIn, compared, run, lineAt}
 use Rattle.kits.specs.declared.Row.{Row}
+use Rattle.kits.specs.declared.Line.{Line}
 use Rattle.kits.specs.declared.Compared.the-variants.{Before, Same, After}
 
 -- the units of a row by value
@@ -215,6 +216,10 @@ module _ (us : List ℕ) (at : ℕ) (h : at < length us) where
 pub no-lines : (us : List ℕ) (at : ℕ) → length us ≤ at → listOf (drop at us) ≡ []
 unfolding listOf
 no-lines us at h = rw (drop-of-length-le us h)
+
+-- a line that was told, and what is left behind it
+pub line-after : (us : List ℕ) (i : ℕ) (r : Line) → i < length us → r ≡ lineAt us i → (i < r .next) × (r .next ≤ length us) × (length (listOf (drop i us)) ≡ 2 + length (listOf (drop (r .next) us)))
+line-after us i r h e = rw e (line-next us i h, line-inside us i h, ap length (lines-from us i h) ∙ omega arith)
 
 -- Two rows by value, walked by index
 module _ (a b : Row) (wa : length (a .places) ≡ mostUnits) (wb : length (b .places) ≡ mostUnits) (ha : a .len ≤ mostUnits) (hb : b .len ≤ mostUnits) (i : ℕ) where

@@ -1,13 +1,11 @@
 use mathlib.Core.Path.{_≡_, sym, _∙_, ap}
-use Prim.Native.Nat.{ℕ, _≤_, _<_, _-_, _+_, _*_}
-use mathlib.Core.List.{List}
+use Prim.Native.Nat.{_≤_, _-_, _+_, _*_}
 use native.Mathlib.Omega.{arith}
 use borrow.Author.Needs.{needs}
 use lib.ListN.{length, drop, length-map}
 use Rattle.kits.specs.Kits.{mostUnits, listOf}
-use Rattle.kits.specs.Rows.{unitsIn, lineAt}
-use Rattle.kits.specs.declared.Line.{Line}
-use Rattle.kits.proofs.Rows.{row-length, lines-from, line-next, line-inside, no-lines}
+use Rattle.kits.specs.Rows.{unitsIn}
+use Rattle.kits.proofs.Rows.{row-length, line-after, no-lines}
 use Rattle.kits.proofs.line_count.Statement.{statement}
 use Rattle.kits.proofs.line_count.Tie as tie
 
@@ -21,10 +19,6 @@ abbrev μ-loop : tie.MeasureT-loop
 wide : {Inv : tie.InvT-loop} {μ : tie.MeasureT-loop} (c : tie.Start Inv μ) → length (c .args .row .places) ≡ mostUnits
 wide c = sym (length-map (c .args .row .places) (λ v. v)) ∙ c .good .0 .1 .1 .0 .1 .0 .1
 
--- one line further
-after : (us : List ℕ) (i : ℕ) (r : Line) → i < length us → r ≡ lineAt us i → (i < r .next) × (r .next ≤ length us) × (length (listOf (drop i us)) ≡ 2 + length (listOf (drop (r .next) us)))
-after us i r h e = rw e (line-next us i h, line-inside us i h, ap length (lines-from us i h) ∙ omega arith)
-
 loop-holds : tie.Need-loop-holds Inv-loop μ-loop
 loop-holds c = (omega arith, omega arith, c .pre, row-length (c .args .row) (wide c) (c .pre), omega arith)
 
@@ -35,10 +29,10 @@ add-count : tie.Need-add-count Inv-loop μ-loop
 add-count c = omega arith
 
 loop-less : tie.Need-loop-less Inv-loop μ-loop
-loop-less c = omega (arith, after (unitsIn (c .before .before .before .before .args .row)) (c .before .before .before .loop .i) (c .line-at .result) (omega arith) (c .line-at .ensures))
+loop-less c = omega (arith, line-after (unitsIn (c .before .before .before .before .args .row)) (c .before .before .before .loop .i) (c .line-at .result) (omega arith) (c .line-at .ensures))
 
 loop-again : tie.Need-loop-again Inv-loop μ-loop
-loop-again c = let s = after (unitsIn (c .before .before .before .before .args .row)) (c .before .before .before .loop .i) (c .line-at .result) (omega arith) (c .line-at .ensures) in
+loop-again c = let s = line-after (unitsIn (c .before .before .before .before .args .row)) (c .before .before .before .loop .i) (c .line-at .result) (omega arith) (c .line-at .ensures) in
     (omega arith, omega arith, omega arith, search needs, omega arith)
 
 returns : tie.Need-returns Inv-loop μ-loop
