@@ -83,7 +83,10 @@ def begins(first, second):
 
 
 def order(first, second):
-    """ "Listing order compares unit rows place by place; a row that begins another comes before it"."""
+    """How a row stands to another in listing order.
+
+    "Listing order compares unit rows place by place; a row that begins another comes before it".
+    """
     if first == second:
         return SAME
     if begins(first, second):
@@ -101,7 +104,7 @@ def agreed(first, second):
 
 
 def within(kit, bin_units):
-    """ "for each part, the kit's quantity is no more than the bin's"."""
+    """Inclusion: "for each part, the kit's quantity is no more than the bin's"."""
     return all(kit.count(place) <= bin_units.count(place) for place in range(MOST_PARTS + 1))
 
 
@@ -161,7 +164,7 @@ def limits():
     yield 255, [255, 15], full(254, 15)
     yield 255, full(255, 1), full(255, 1)[:-1]
     # the short cases: repeated labels, beginnings, sets
-    rows = ([], [1, 1], [1, 2], [2, 1], [1, 1, 2, 1], [1, 1, 3, 1], [1, 2, 2, 1], [2, 1, 3, 1], [3, 15])
+    rows = [], [1, 1], [1, 2], [2, 1], [1, 1, 2, 1], [1, 1, 3, 1], [1, 2, 2, 1], [2, 1, 3, 1], [3, 15]
     for first in rows:
         for second in rows:
             yield 3, list(first), list(second)
@@ -191,21 +194,22 @@ def some_list(chance, parts):
     return row
 
 
-def make_requests(seed=SEED):
+def make_requests():
     """All pairs of lists that are run."""
-    chance = Chance(seed)
+    chance = Chance(SEED)
     return list(limits()) + [by_chance(chance) for _ in range(BY_CHANCE)]
 
 
-def make_input(seed=SEED):
+def make_input(_letters=None):
     """The program's input: every request, and a last one that is cut short."""
-    data = b"".join(request(*pair) for pair in make_requests(seed)) + request(3, [1, 1], [2, 1])[:-1]
+    data = b"".join(request(*pair) for pair in make_requests())
+    data += request(3, [1, 1], [2, 1])[:-1]
     if len(data) > INPUT_BYTES:
         raise ValueError("the program takes no more than %d bytes" % INPUT_BYTES)
     return data
 
 
-def make_output(data):
+def make_output(data, _letters=None):
     """What the program must write for this input."""
     said, at = [], 0
     while at < len(data):

@@ -22,12 +22,16 @@ use ground::wide8;
 use ground::wide16;
 use kits::Checked;
 use kits::Compared;
+use kits::MOST_UNITS;
+use kits::PLACES;
 use kits::Row;
 use libc::STDIN_FILENO;
 use libc::STDOUT_FILENO;
 
-// The most numbers of a list.
+// The most bytes of input, the most numbers of a list, and more than the bytes of the longest answer.
+const INPUT: usize = 65536;
 const NUMBERS: usize = 512;
+const ANSWER: usize = 2048;
 
 // Sets a number down in two bytes, where there is room; where the next goes.
 fn put(out: &mut [u8], at: usize, x: usize) -> usize {
@@ -77,7 +81,7 @@ fn put_compared(out: &mut [u8], at: usize, compared: Compared) -> usize {
 fn put_places(out: &mut [u8], from: usize, row: Row) -> usize {
     let mut at = from;
     let mut i = 0;
-    while i < 64 {
+    while i < MOST_UNITS {
         at = put(out, at, wide16(row.places[i]));
         i += 1;
     }
@@ -130,10 +134,10 @@ fn put_orders(out: &mut [u8], from: usize, a: &[u16], b: &[u16]) -> usize {
     put_order(out, from, kits::row_of(a), kits::row_of(b))
 }
 
-fn put_quantities(out: &mut [u8], from: usize, quantities: &[u16; 256]) -> usize {
+fn put_quantities(out: &mut [u8], from: usize, quantities: &[u16; PLACES]) -> usize {
     let mut at = from;
     let mut i = 0;
-    while i < 256 {
+    while i < PLACES {
         at = put(out, at, wide16(quantities[i]));
         i += 1;
     }
@@ -141,11 +145,11 @@ fn put_quantities(out: &mut [u8], from: usize, quantities: &[u16; 256]) -> usize
 }
 
 // Whether, of each place, a has no more than b.
-fn within(a: &[u16; 256], b: &[u16; 256]) -> bool
+fn within(a: &[u16; PLACES], b: &[u16; PLACES]) -> bool
     ensures { λ r. ⌜ r ≡ noMoreOf (now (a .entry)) (now (b .entry)) ⌝ }
 {
     let mut i = 0;
-    while i < 256 {
+    while i < PLACES {
         if b[i] < a[i] {
             return false;
         }
@@ -192,9 +196,9 @@ fn answer(out: &mut [u8], parts: u8, a: &[u16], b: &[u16]) -> usize {
 
 // Writes the answer to two lists.
 fn write_answer(parts: u8, a: &[u16], b: &[u16]) {
-    let mut out = [0u8; 2048];
+    let mut out = [0u8; ANSWER];
     let size = answer(&mut out, parts, a, b);
-    if size <= 2048 {
+    if size <= ANSWER {
         io::write_all(STDOUT_FILENO, &out[..size]);
     }
 }
@@ -241,8 +245,8 @@ fn load(list: &mut [u16], bytes: &[u8]) -> usize
 
 // Takes the two lists of a request from its bytes, and writes the answer.
 fn reply(parts: u8, bytes_a: &[u8], bytes_b: &[u8]) {
-    let mut a = [0u16; 512];
-    let mut b = [0u16; 512];
+    let mut a = [0u16; NUMBERS];
+    let mut b = [0u16; NUMBERS];
     let count_a = load(&mut a, bytes_a);
     let count_b = load(&mut b, bytes_b);
     write_answer(parts, &a[..count_a], &b[..count_b]);
@@ -276,7 +280,7 @@ fn run(input: &[u8]) {
 }
 
 fn main() {
-    let mut input = [0u8; 65536];
+    let mut input = [0u8; INPUT];
     let size = io::read_full(STDIN_FILENO, &mut input);
     run(&input[..size]);
 }

@@ -5,13 +5,13 @@ use Rattle.kits_run.proofs.put.Statement.{statement}
 use Rattle.kits_run.proofs.put.Tie as tie
 
 returns : tie.Need-returns
-returns c = search needs
+returns c = tt
 
 sub-if2 : tie.Need-sub-if2
 sub-if2 c = search needs
 
 returns-2 : tie.Need-returns-2
-returns-2 c = search needs
+returns-2 c = tt
 
 cast-out : tie.Need-cast-out
 cast-out c = search needs
@@ -35,7 +35,7 @@ same-length : tie.Need-same-length
 same-length c = search needs
 
 returns-3 : tie.Need-returns-3
-returns-3 c = search needs
+returns-3 c = tt
 
 pub put-spec : {M : Type 1} → statement M
 put-spec =

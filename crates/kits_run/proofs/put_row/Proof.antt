@@ -4,25 +4,25 @@ use Rattle.kits_run.proofs.put_row.Statement.{statement}
 use Rattle.kits_run.proofs.put_row.Tie as tie
 
 has-room-requires : tie.Need-has-room-requires
-has-room-requires c κs = search needs
+has-room-requires c κs = tt
 
 put-requires : tie.Need-put-requires
-put-requires c κs = search needs
+put-requires c κs = tt
 
 same-length : tie.Need-same-length
 same-length c = search needs
 
 returns : tie.Need-returns
-returns c = search needs
+returns c = tt
 
 row-of-requires : tie.Need-row-of-requires
 row-of-requires c κs = has-row _ _ (c .before .has-room .ensures) (c .if1 .left)
 
 put-two-requires : tie.Need-put-two-requires
-put-two-requires c κs = search needs
+put-two-requires c κs = tt
 
 put-places-requires : tie.Need-put-places-requires
-put-places-requires c κs = search needs
+put-places-requires c κs = tt
 
 put-lines-requires : tie.Need-put-lines-requires
 put-lines-requires c κs = row-short _ _ (c .before .before .before .before .before .before .before .before .before .row-of .ensures) (has-row _ _ (c .before .before .before .before .before .before .before .before .before .before .before .has-room .ensures) (c .before .before .before .before .before .before .before .before .before .before .if1 .left))
@@ -31,7 +31,7 @@ same-length-2 : tie.Need-same-length-2
 same-length-2 c = search needs
 
 returns-2 : tie.Need-returns-2
-returns-2 c = search needs
+returns-2 c = tt
 
 pub put-row-spec : {M : Type 1} → statement M
 put-row-spec =
