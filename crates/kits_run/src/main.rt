@@ -30,7 +30,9 @@ use libc::STDOUT_FILENO;
 
 // The most bytes of input, the most numbers of a list, and more than the bytes of the longest answer.
 const INPUT: usize = 65536;
+
 const NUMBERS: usize = 512;
+
 const ANSWER: usize = 2048;
 
 // Sets a number down in two bytes, where there is room; where the next goes.

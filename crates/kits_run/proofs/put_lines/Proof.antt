@@ -1,11 +1,11 @@
 use native.Mathlib.Omega.{arith}
 use borrow.Author.Needs.{needs}
-use mathlib.Core.Path.{_≡_, sym, _∙_}
+use mathlib.Core.Path.{_≡_}
 use Prim.Native.Nat.{_≤_, _-_}
-use lib.ListN.{length, length-map}
+use lib.ListN.{length}
 use Rattle.kits.specs.Kits.{mostUnits}
 use Rattle.kits.specs.Rows.{unitsIn}
-use Rattle.kits.proofs.Rows.{row-length, line-after}
+use Rattle.kits.proofs.Rows.{row-wide, row-length, line-after}
 use Rattle.kits_run.proofs.put_lines.Statement.{statement}
 use Rattle.kits_run.proofs.put_lines.Tie as tie
 
@@ -17,7 +17,7 @@ abbrev μ-loop : tie.MeasureT-loop
 
 -- a row by value has 64 places
 wide : {Inv : tie.InvT-loop} {μ : tie.MeasureT-loop} (c : tie.Start Inv μ) → length (c .args .row .places) ≡ mostUnits
-wide c = sym (length-map (c .args .row .places) (λ v. v)) ∙ c .good .1 .1 .0 .1 .1 .0 .1 .0 .1
+wide c = row-wide (c .args .row) (c .good .1 .1 .0 .1 .1 .0 .1 .0 .1)
 
 line-count-requires : tie.Need-line-count-requires Inv-loop μ-loop
 line-count-requires c κs = c .before .before .pre

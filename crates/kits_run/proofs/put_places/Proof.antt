@@ -1,8 +1,9 @@
+use Rattle.kits.proofs.Rows.{row-wide}
 use native.Mathlib.Omega.{arith}
 use borrow.Author.Needs.{needs}
-use mathlib.Core.Path.{_≡_, refl, sym, _∙_}
+use mathlib.Core.Path.{_≡_, refl}
 use Prim.Native.Nat.{_≤_, _-_}
-use lib.ListN.{length, length-map}
+use lib.ListN.{length}
 use Rattle.kits_run.proofs.put_places.Statement.{statement}
 use Rattle.kits_run.proofs.put_places.Tie as tie
 
@@ -14,7 +15,7 @@ abbrev μ-loop : tie.MeasureT-loop
 
 -- a row by value has 64 places
 wide : {Inv : tie.InvT-loop} {μ : tie.MeasureT-loop} (c : tie.Start Inv μ) → length (c .args .t3 .places) ≡ 64
-wide c = sym (length-map (c .args .t3 .places) (λ v. v)) ∙ c .good .1 .1 .0 .1 .1 .0 .1 .0 .1
+wide c = row-wide (c .args .t3) (c .good .1 .1 .0 .1 .1 .0 .1 .0 .1)
 
 loop-holds : tie.Need-loop-holds Inv-loop μ-loop
 loop-holds c = (omega arith, refl, wide (c .before))
