@@ -94,8 +94,9 @@ def fixed():
 
 def ends_of_input():
     """Inputs that end with and without a line feed."""
-    for data in (b"\n", b"\n\n", b"W", b"W\n", b"W\n\n", b"\nW", b"P A", b"P A\nP A", b"P A\n\nP A\n",
-                 b" ", b"\r\n", b"\0", b"P ", b"P A " + b"\n", b"W\r\n", b"P A\r\nP A\n",
+    for data in (b"\n", b"\n\n", b"W", b"W\n", b"W\n\n", b"\nW", b"P A", b"P A\nP A",
+                 b"P A\n\nP A\n", b" ", b"\r\n", b"\0", b"P ", b"P A \n", b"W\r\n",
+                 b"P A\r\nP A\n",
                  b"A" * LONGEST_LINE, b"A" * (LONGEST_LINE + 1), b"W\n" + b"A" * 600):
         yield "input %r" % data[:20], data
 
