@@ -18,6 +18,9 @@ USES = {
     "c": "RNL", "W": "RNLP", "C": "RNLP", "s": "RNO", "r": "RNI",
 }
 
+# The calls that use argument A; none uses B yet.
+USES_A = "nk"
+
 # The calls with the most ways to go wrong are made more often.
 OFTEN = "kdWCr"
 
@@ -70,8 +73,9 @@ def by_chance(letters, seed, count):
         for name in REQUEST_BLOCKS:
             if name not in USES[letter] and not request.blocks[name] and chance.one_in(2):
                 request.blocks[name] = some_block(chance, name)
-        if chance.one_in(2):
-            request.b = chance.some_words(1)[0]
+        if letter not in USES_A:
+            request.a = chance.some_words(1)[0]
+        request.b = chance.some_words(1)[0]
         yield request
 
 
