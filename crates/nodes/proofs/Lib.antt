@@ -1,0 +1,3 @@
+-- Laws of the node table, for this crate and those above it.
+pub mod Lists
+pub mod Fields
