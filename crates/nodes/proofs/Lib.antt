@@ -4,3 +4,5 @@ pub mod Fields
 pub mod Sorted
 pub mod Rows
 pub mod Walk
+pub mod Chain
+pub mod Decided

@@ -1,13 +1,15 @@
 -- Lists whose members all have a property, or stand each before all that follow; such a list is determined by its members.
 use mathlib.Core.Path.{_≡_, refl, sym, ap, ap₂, subst, _∙_}
 use mathlib.Core.Logic.{_⊎_, inl, inr, ⊎-elim, _≢_}
-use mathlib.Core.Bool.{Bool, true, false, cond}
-use mathlib.Core.List.{List, [], _∷_, _++_, map, List·Memᴰ, List·Memᴰ·head, List·Memᴰ·tail, List·Memᴰ·not-nil, List·Memᴰ·cases-cons}
+use mathlib.Core.Bool.{Bool, true, false, _||_, cond, not}
+use mathlib.Core.List.{List, [], _∷_, _++_, map, List·Memᴰ, List·Memᴰ·head, List·Memᴰ·tail, List·Memᴰ·not-nil, List·Memᴰ·cases-cons, Memᴰ·cast, Memᴰ·map, Memᴰ·of-map}
 use Prim.Native.Nat.{ℕ, zero, suc, _+_, _≤_, _<_}
 use native.Mathlib.Omega.{arith}
 use lib.ListN.{length}
-use Rattle.ground.specs.Lists.{keep, from}
-use Rattle.ground.proofs.Laws.{by-cond}
+use lib.Dec.{eqb}
+use borrow.Author.Tests.{eqb-true, eqb-false, not-true}
+use Rattle.ground.specs.Lists.{allb, anyb, distinct, keep, from}
+use Rattle.ground.proofs.Laws.{by-cond, and-left, and-right, and-both}
 use Rattle.nodes.proofs.Lists.{never, same-or}
 
 module _ {A : Type 0} where
@@ -31,6 +33,10 @@ module _ {A : Type 0} where
   every-map f none = none
   every-map f (also {x = x} p e) = also (f x p) (every-map f e)
 
+  pub every-map2 : {P Q R : A → Type 0} {xs : List A} → ((x : A) → P x → Q x → R x) → Every P xs → Every Q xs → Every R xs
+  every-map2 f none none = none
+  every-map2 f (also {x = x} p d) (also q e) = also (f x p q) (every-map2 f d e)
+
   pub every-append : {P : A → Type 0} {xs ys : List A} → Every P xs → Every P ys → Every P (xs ++ ys)
   every-append none e = e
   every-append (also p d) e = also p (every-append d e)
@@ -52,6 +58,10 @@ module _ {A : Type 0} where
   pub rising-weaken : {R Q : A → A → Type 0} {xs : List A} → ((x y : A) → R x y → Q x y) → Rising R xs → Rising Q xs
   rising-weaken f none = none
   rising-weaken f (ahead {x = x} e s) = ahead (every-map (f x) e) (rising-weaken f s)
+
+  pub rising-refine : {P : A → Type 0} {R Q : A → A → Type 0} {xs : List A} → ((x y : A) → P x → P y → R x y → Q x y) → Every P xs → Rising R xs → Rising Q xs
+  rising-refine f none none = none
+  rising-refine f (also {x = x} p d) (ahead e s) = ahead (every-map2 (λ y q r. f x y p q r) d e) (rising-refine f d s)
 
   -- what is kept
   pub keep-mem : (p : A → Bool) (x : A) (xs : List A) → List·Memᴰ x (keep p xs) → List·Memᴰ x xs × (p x ≡ true)
@@ -143,3 +153,60 @@ rising-from zero a = none
 rising-from (suc n) a =
     let e : Every (λ (x : ℕ). a < x) (from (suc a) n) = mem-every (from (suc a) n) (λ x m. omega (arith, from-mem n (suc a) x m .0)) in
     ahead e (rising-from n (suc a))
+
+-- Tests on all members, or on some
+module _ {A : Type 0} (p : A → Bool) where
+  pub allb-mem : (xs : List A) (x : A) → allb p xs ≡ true → List·Memᴰ x xs → p x ≡ true
+  unfolding allb
+  allb-mem [] x h m = absurd (List·Memᴰ·not-nil m)
+  allb-mem (y ∷ ys) x h m = ⊎-elim (λ (e : x ≡ y). ap p e ∙ and-left (p y) (allb p ys) h) (λ k. allb-mem ys x (and-right (p y) (allb p ys) h) k) (List·Memᴰ·cases-cons m)
+
+  pub mem-allb : (xs : List A) → ((x : A) → List·Memᴰ x xs → p x ≡ true) → allb p xs ≡ true
+  unfolding allb
+  mem-allb [] f = refl
+  mem-allb (x ∷ xs) f = and-both (p x) (allb p xs) (f x (List·Memᴰ·head refl)) (mem-allb xs (λ y m. f y (List·Memᴰ·tail m)))
+
+pub anyb-eqb : (i : ℕ) (xs : List ℕ) → anyb (eqb i) xs ≡ true → List·Memᴰ i xs
+unfolding anyb
+anyb-eqb i [] h = absurd (never (sym h))
+anyb-eqb i (x ∷ xs) h = go (eqb i x) refl h (anyb-eqb i xs)
+  where
+    go : (b : Bool) → eqb i x ≡ b → (b || anyb (eqb i) xs) ≡ true → (anyb (eqb i) xs ≡ true → List·Memᴰ i xs) → List·Memᴰ i (x ∷ xs)
+    go true e k f = List·Memᴰ·head (eqb-true i x e)
+    go false e k f = List·Memᴰ·tail (f k)
+
+pub eqb-anyb : (i : ℕ) (xs : List ℕ) → List·Memᴰ i xs → anyb (eqb i) xs ≡ true
+unfolding anyb
+eqb-anyb i [] m = absurd (List·Memᴰ·not-nil m)
+eqb-anyb i (x ∷ xs) m = go (eqb i x) refl (eqb-anyb i xs)
+  where
+    go : (b : Bool) → eqb i x ≡ b → (List·Memᴰ i xs → anyb (eqb i) xs ≡ true) → (b || anyb (eqb i) xs) ≡ true
+    go true e f = refl
+    go false e f = ⊎-elim (λ (q : i ≡ x). absurd (eqb-false i x e q)) f (List·Memᴰ·cases-cons m)
+
+-- numbers that differ, by a test
+module _ (f : ℕ → ℕ) where
+  pub distinct-apart : (xs : List ℕ) → distinct eqb (map f xs) ≡ true → Rising (λ (i j : ℕ). f i ≢ f j) xs
+  unfolding distinct
+  distinct-apart [] h = none
+  distinct-apart (x ∷ xs) h =
+      let a : anyb (eqb (f x)) (map f xs) ≡ false = not-true _ (and-left (not (anyb (eqb (f x)) (map f xs))) (distinct eqb (map f xs)) h) in
+      let e : Every (λ (j : ℕ). f x ≢ f j) xs = mem-every xs (λ y m q. never (sym (eqb-anyb (f x) (map f xs) (Memᴰ·cast q (Memᴰ·map f m))) ∙ a)) in
+      ahead e (distinct-apart xs (and-right (not (anyb (eqb (f x)) (map f xs))) (distinct eqb (map f xs)) h))
+
+  pub apart-distinct : {xs : List ℕ} → Rising (λ (i j : ℕ). f i ≢ f j) xs → distinct eqb (map f xs) ≡ true
+  unfolding distinct
+  apart-distinct none = refl
+  apart-distinct (ahead {x = x} {xs = xs} e s) = and-both (not (anyb (eqb (f x)) (map f xs))) (distinct eqb (map f xs)) (clear (anyb (eqb (f x)) (map f xs)) refl) (apart-distinct s)
+    where
+      clear : (b : Bool) → anyb (eqb (f x)) (map f xs) ≡ b → not b ≡ true
+      clear false h = refl
+      clear true h = let k = Memᴰ·of-map f xs (anyb-eqb (f x) (map f xs) h) in absurd (every-mem e (k .1) (sym (k .2)))
+
+  -- where members differ, one value belongs to one member only
+  pub apart-one : {xs : List ℕ} {i j : ℕ} → Rising (λ (a b : ℕ). f a ≢ f b) xs → List·Memᴰ i xs → List·Memᴰ j xs → f i ≡ f j → i ≡ j
+  apart-one none m n e = absurd (List·Memᴰ·not-nil m)
+  apart-one {i = i} {j = j} (ahead {x = x} {xs = xs} d s) m n e = ⊎-elim
+      (λ (a : i ≡ x). ⊎-elim (λ (b : j ≡ x). a ∙ sym b) (λ b. absurd (every-mem d b (sym (ap f a) ∙ e))) (List·Memᴰ·cases-cons n))
+      (λ a. ⊎-elim (λ (b : j ≡ x). absurd (every-mem d a (sym (ap f b) ∙ sym e))) (λ b. apart-one s a b e) (List·Memᴰ·cases-cons n))
+      (List·Memᴰ·cases-cons m)

@@ -12,7 +12,7 @@ use Rattle.nodes.specs.Walk.{total, reach, rank, visit, walk}
 use Rattle.nodes.proofs.Lists.{zero-or}
 use Rattle.nodes.proofs.Rows.{climb, used-pos}
 
-in-total : (l : List ℕ) (k : ℕ) → getD l k 0 ≤ total l
+pub in-total : (l : List ℕ) (k : ℕ) → getD l k 0 ≤ total l
 unfolding total
 in-total [] zero = omega arith
 in-total [] (suc k) = omega arith
