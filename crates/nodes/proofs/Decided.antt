@@ -1,23 +1,21 @@
 -- The test of soundness and the record of its conditions say the same of every table of a right length.
-use mathlib.Core.Path.{_≡_, refl, sym, ap, subst, _∙_}
-use mathlib.Core.Logic.{_↔_, ⊎-elim, _≢_}
-use mathlib.Core.Bool.{Bool, true, false, _||_, _&&_, not}
-use mathlib.Core.List.{List, [], _∷_, map, List·Memᴰ}
-use Prim.Native.Nat.{ℕ, zero, suc, _+_, _-_, _*_, _/_, _≤_, _<_}
+use mathlib.Core.Path.{_≡_, refl, sym, ap, _∙_}
+use mathlib.Core.Logic.{_↔_, ⊎-elim}
+use mathlib.Core.Bool.{Bool, true, false, _||_, not}
+use mathlib.Core.List.{List, [], _∷_, List·Memᴰ}
+use Prim.Native.Nat.{ℕ, zero, suc, _-_, _<_}
 use native.Mathlib.Omega.{arith}
-use lib.ListN.{length, getD}
-use lib.Dec.{leb, ltb, eqb}
+use lib.ListN.{length}
+use lib.Dec.{ltb, eqb}
 use borrow.Author.Tests.{eqb-true, eqb-false, leb-true, ltb-true, not-true, not-false, eq-eqb, ne-eqb, le-leb, lt-ltb}
-use Rattle.ground.specs.Lists.{allb, every, keep, distinct, from, isZero}
-use Rattle.ground.proofs.Laws.{every-at, and-left, and-right, and-both, allFrom-at, allFrom-all}
-use Rattle.kits.specs.Kits.{count, mostUnits, mostQuantity}
-use Rattle.nodes.specs.Nodes.{wordsPerNode, labelWord, word, parent, child, next, label, depth, tag, size, nodesLength, nodesOf, othersOf, zeroWord, isFree, isUsed, tagged, rowOf, children}
-use Rattle.nodes.specs.Sound.{rootGood, parentGood, depthGood, labelGood, fewEqual, linksInside, childGood, nextGood, onChain, endTagged, tagsDiffer, usedOthers, nodesSound, Sized, Used, Live, Zero, OnChain, Root, Good, Head, Shape, Sound}
+use Rattle.ground.specs.Lists.{allb, every, keep, from, isZero}
+use Rattle.ground.proofs.Laws.{every-at, allFrom-at, allFrom-all}
+use Rattle.nodes.specs.Nodes.{wordsPerNode, labelWord, word, parent, child, next, label, tag, size, nodesLength, nodesOf, othersOf, zeroWord, isFree, isUsed, tagged, children}
+use Rattle.nodes.specs.Sound.{rootGood, parentGood, depthGood, labelGood, fewEqual, linksInside, childGood, nextGood, onChain, endTagged, tagsDiffer, usedOthers, nodesSound, Sized, Used, Live, Zero, Root, Good, Head, Shape, Sound}
 use Rattle.nodes.proofs.Lists.{never, zero-or}
 use Rattle.nodes.proofs.Fields.{free-is-zeros, root-not-free, length-sized}
 use Rattle.nodes.proofs.Sorted.{mem-every, rising-refine, rising-keep, rising-from, keep-mem, mem-keep, from-mem, mem-from, allb-mem, mem-allb, anyb-eqb, eqb-anyb, distinct-apart, apart-distinct, apart-one}
-use Rattle.nodes.proofs.Rows.{climb, used-pos}
-use Rattle.nodes.proofs.Walk.{live-inside}
+use Rattle.nodes.proofs.Rows.{climb, used-pos, live-inside}
 use Rattle.nodes.proofs.Chain.{chain-on, siblings, children-have}
 
 -- tests
@@ -250,17 +248,17 @@ module _ {parts : ℕ} {N : List ℕ} (So : Sound parts N) where
   parent-in = by-use (λ (i : ℕ). parent N i < size N)
       (omega (arith, S .root .no-parent, S .sized .some-node))
       (λ i f. omega (arith, f 0 (omega arith), S .sized .some-node))
-      (λ i u. live-inside S (parent N i) (S .good i u .above))
+      (λ i u. live-inside (climb S) (parent N i) (S .good i u .above))
 
   next-in : (i : ℕ) → i < size N → next N i < size N
   next-in = by-use (λ (i : ℕ). next N i < size N)
       (omega (arith, S .root .no-next, S .sized .some-node))
       (λ i f. omega (arith, f 2 (omega arith), S .sized .some-node))
-      (λ i u. live-inside S (next N i) (S .good i u .sibling))
+      (λ i u. live-inside (climb S) (next N i) (S .good i u .sibling))
 
   links-test : allb (linksInside N) (nodesOf N) ≡ true
   unfolding linksInside every
-  links-test = node-of N (linksInside N) (λ i h. rw (lt-ltb _ _ (parent-in i h), lt-ltb _ _ (live-inside S (child N i) (S .head i h .first)), lt-ltb _ _ (next-in i h)))
+  links-test = node-of N (linksInside N) (λ i h. rw (lt-ltb _ _ (parent-in i h), lt-ltb _ _ (live-inside (climb S) (child N i) (S .head i h .first)), lt-ltb _ _ (next-in i h)))
 
   heads-test : allb (childGood N) (nodesOf N) ≡ true
   unfolding childGood every
