@@ -8,10 +8,10 @@ use Rattle.soundness.proofs.tags_ok.Statement.{statement}
 use Rattle.soundness.proofs.tags_ok.Tie as tie
 
 abbrev Inv-loop : tie.InvT-loop
-Inv-loop nodes seen₀ n i₀ seen i = (n ≡ size nodes) × (i ≤ n) × Marked nodes seen i
+Inv-loop nodes seen₀ n at₀ seen at = (n ≡ size nodes) × (at ≤ n) × Marked nodes seen at
 
 abbrev μ-loop : tie.MeasureT-loop
-μ-loop nodes seen₀ n i₀ seen i = n - i
+μ-loop nodes seen₀ n at₀ seen at = n - at
 
 node-count-requires : tie.Need-node-count-requires Inv-loop μ-loop
 node-count-requires c κs = tt
@@ -25,8 +25,8 @@ tag-at-requires c κs = omega arith
 wide16-requires : tie.Need-wide16-requires Inv-loop μ-loop
 wide16-requires c κs = tt
 
-add-i : tie.Need-add-i Inv-loop μ-loop
-add-i c = omega arith
+add-at : tie.Need-add-at Inv-loop μ-loop
+add-at c = omega arith
 
 array-read-if2 : tie.Need-array-read-if2 Inv-loop μ-loop
 array-read-if2 c = omega (arith, c .before .wide16 .ensures .1)
@@ -62,7 +62,7 @@ tags-ok-spec =
     loop-holds
     tag-at-requires
     wide16-requires
-    add-i
+    add-at
     array-read-if2
     returns
     array-write-seen
