@@ -27,6 +27,9 @@ OFTEN = "kdWCr"
 # Bytes outside the printable ones, tried as letters.
 OTHER_LETTERS = bytes([0, 1, 10, 13, 31, 127, 128, 255])
 
+# How many elements of a block that is too large are really sent.
+MOST_SENT = 131_072
+
 
 def limits(letters):
     """The limits for these letters."""
@@ -100,12 +103,12 @@ def broken(letters):
 
 
 def oversize(letter, name, count):
-    """A request whose one block announces so many elements, with as many as fit a page."""
+    """A request whose one block announces so many elements, and sends them up to a limit."""
     parts = [REQUEST_HEAD.pack(letter.encode("latin-1"), 0, 0)]
     for block in REQUEST_BLOCKS:
         parts.append(COUNT.pack(count if block == name else 0))
         if block == name:
-            parts.append(bytes(min(count, 1 << 17) * (2 if name in WORD_BLOCKS else 1)))
+            parts.append(bytes(min(count, MOST_SENT) * (2 if name in WORD_BLOCKS else 1)))
     return b"".join(parts)
 
 
