@@ -28,7 +28,7 @@ upto-at no-more i h = absurd (omega arith)
 upto-at (place g u) zero h = g
 upto-at (place g u) (suc i) h = upto-at u i (omega arith)
 
-upto-is : (n : ℕ) (r : List ℕ) → ((i : ℕ) → i < length r → getD r i 0 ≤ n) → Upto n r
+pub upto-is : (n : ℕ) (r : List ℕ) → ((i : ℕ) → i < length r → getD r i 0 ≤ n) → Upto n r
 upto-is n [] f = no-more
 upto-is n (x ∷ r) f = place (f 0 (omega arith)) (upto-is n r (λ i h. f (suc i) (omega arith)))
 

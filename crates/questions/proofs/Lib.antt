@@ -1,0 +1,1 @@
+-- The laws of the questions, for this crate and those above it.

@@ -1,0 +1,34 @@
+use borrow.Author.Needs.{needs}
+use Rattle.questions.proofs.come_again.Statement.{statement}
+use Rattle.questions.proofs.come_again.Tie as tie
+use Rattle.questions.proofs.come_again.Reads as reads
+use Rattle.questions.proofs.come_again.Lts as lts
+use Rattle.questions.proofs.quantity.Reads as quantity-reads
+
+-- src/lib.rt:67:9
+quantity-requires : tie.Need-quantity-requires
+quantity-requires c κs = search needs
+
+-- src/lib.rt:70:20
+add-result : tie.Need-add-result
+add-result c = search needs
+
+-- src/lib.rt:70:13
+returns : tie.Need-returns
+returns c = ?
+
+-- src/lib.rt:72:9
+returns-2 : tie.Need-returns-2
+returns-2 c = ?
+
+-- src/lib.rt:75:9
+returns-3 : tie.Need-returns-3
+returns-3 c = ?
+
+-- src/lib.rt:63:1
+returns-4 : tie.Need-returns-4
+returns-4 c = ?
+
+pub come-again-spec : {M : Type 1} → statement M
+come-again-spec =
+    tie.close (tie.spec quantity-requires add-result returns returns-2 returns-3 returns-4)

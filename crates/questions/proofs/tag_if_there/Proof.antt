@@ -1,0 +1,21 @@
+use borrow.Author.Needs.{needs}
+use Rattle.questions.proofs.tag_if_there.Statement.{statement}
+use Rattle.questions.proofs.tag_if_there.Tie as tie
+use Rattle.questions.proofs.tag_if_there.Reads as reads
+use Rattle.questions.proofs.tag_if_there.Lts as lts
+use Rattle.nodes.proofs.tag_at.Reads as tag-at-reads
+
+-- src/lib.rt:240:9
+tag-at-requires : tie.Need-tag-at-requires
+tag-at-requires c κs = search needs
+
+-- src/lib.rt:240:9
+returns : tie.Need-returns
+returns c = ?
+
+-- src/lib.rt:235:1
+returns-2 : tie.Need-returns-2
+returns-2 c = ?
+
+pub tag-if-there-spec : {M : Type 1} → statement M
+tag-if-there-spec = tie.close (tie.spec tag-at-requires returns returns-2)
