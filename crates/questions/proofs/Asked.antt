@@ -1,18 +1,22 @@
 -- The walk of a question, whichever it is: one step of it, where it may stop, the first tag, and the tags set down.
-use mathlib.Core.Path.{_≡_, refl, sym, ap, _∙_}
+use mathlib.Core.Path.{_≡_, refl, sym, ap, ap₂, _∙_}
 use mathlib.Core.Logic.{⊎-elim}
-use mathlib.Core.Bool.{Bool, true, false, cond, not}
+use mathlib.Core.Bool.{Bool, true, false, cond, not, _&&_}
 use mathlib.Core.List.{List, [], _∷_, _++_, map, append-assoc, append-nil}
 use Prim.Native.Nat.{ℕ, zero, suc, _+_, _≤_, _<_}
 use native.Mathlib.Nat.{add-zero}
 use native.Mathlib.Omega.{arith}
 use lib.ListN.{length, getD, set, length-append}
 use lib.Seq.{sets}
+use lib.Dec.{eqb}
+use borrow.Author.Tests.{eq-eqb, ne-eqb}
 use Rattle.ground.specs.Lists.{keep}
-use Rattle.ground.proofs.Laws.{map-append}
+use Rattle.ground.proofs.Laws.{map-append, and-right}
+use Rattle.kits.specs.Kits.{mostPlace}
 use Rattle.nodes.specs.Nodes.{parent, child, next, label, tag, tagged, size, rowOf}
 use Rattle.nodes.specs.Sound.{Used, Live, Shape}
 use Rattle.nodes.specs.Walk.{rank, walk, walkAll}
+use Rattle.nodes.proofs.Lists.{never}
 use Rattle.nodes.proofs.Rows.{climb, used-pos, row-root, row-step}
 use Rattle.nodes.proofs.Walk.{root-inside, root-child, child-live, child-less, next-less, walk-none, walk-some, ind}
 use Rattle.questions.specs.Walks.{answers, tagsFrom, tagsIn, someTag, Asks, Wrote}
@@ -62,18 +66,174 @@ sets-append o n (x ∷ xs) ys =
 pub wrote-none : (o : List ℕ) (n : ℕ) (ts : List ℕ) → ts ≡ [] → Wrote o o n n ts
 wrote-none o n ts e = rw e (record { ends = omega arith; is = refl })
 
+set-past : (o : List ℕ) (n t : ℕ) → length o ≤ n → set o n t ≡ o
+set-past [] n t h = refl
+set-past (x ∷ o) zero t h = absurd (omega arith)
+set-past (x ∷ o) (suc n) t h = ap (_∷_ x) (set-past o n t (omega arith))
+
+-- one tag, where there is room, and where there is none
+pub wrote-one : (o : List ℕ) (n t : ℕ) → (t ≡ 0 → ⊥) → Wrote o (set o n t) n (n + 1) (someTag t)
+wrote-one o n t h = rw (some-one t h) (record { ends = omega arith; is = refl })
+
+pub wrote-past : (o : List ℕ) (n t : ℕ) → (t ≡ 0 → ⊥) → length o ≤ n → Wrote o o n (n + 1) (someTag t)
+wrote-past o n t h g = rw (some-one t h) (record { ends = omega arith; is = sym (set-past o n t g) })
+
 pub wrote-on : {o o′ o″ : List ℕ} {n k r : ℕ} {xs ys : List ℕ} → Wrote o o′ n k xs → Wrote o′ o″ k r ys → Wrote o o″ n r (xs ++ ys)
 wrote-on {o} {o′} {o″} {n} {k} {r} {xs} {ys} a b = record {
   ends = omega (arith, a .ends, b .ends, length-append xs ys);
   is = b .is ∙ ap (λ l. sets l k ys) (a .is) ∙ ap (λ j. sets (sets o n xs) j ys) (a .ends) ∙ sym (sets-append o n xs ys);
 }
 
--- a test of rows, at the nodes of a table
+-- a node's tag, where the test b says yes
+kept-tag : (N : List ℕ) (i : ℕ) (b : Bool) (t : ℕ) → t ≡ tag N i → map (tag N) (cond (b && not (eqb t 0)) (i ∷ []) []) ≡ someTag (cond b t 0)
+unfolding someTag
+kept-tag N i true zero e = refl
+kept-tag N i true (suc t) e = rw (ne-eqb (suc t) 0 (λ q. omega arith)) (ap (λ x. x ∷ []) (sym e))
+kept-tag N i false t e = refl
+
+-- where the first tag is 0 there is none
+first-none : (N : List ℕ) (test : List ℕ → Bool) (xs : List ℕ) → getD (map (tag N) (keep (answers test N) xs)) 0 0 ≡ 0 → map (tag N) (keep (answers test N) xs) ≡ []
+unfolding keep answers tagged
+first-none N test [] h = refl
+first-none N test (x ∷ xs) h = go (test (rowOf N x) && not (eqb (tag N x) 0)) refl h (first-none N test xs)
+  where
+    go : (b : Bool) → (test (rowOf N x) && not (eqb (tag N x) 0)) ≡ b → getD (map (tag N) (cond b (x ∷ keep (answers test N) xs) (keep (answers test N) xs))) 0 0 ≡ 0 → (getD (map (tag N) (keep (answers test N) xs)) 0 0 ≡ 0 → map (tag N) (keep (answers test N) xs) ≡ []) → map (tag N) (cond b (x ∷ keep (answers test N) xs) (keep (answers test N) xs)) ≡ []
+    go true e h f = absurd (never (sym (and-right (test (rowOf N x)) (not (eqb (tag N x) 0)) e) ∙ ap not (eq-eqb (tag N x) 0 h)))
+    go false e h f = f h
+
+-- A test of rows, at the nodes of a table
 module _ {parts : ℕ} {N : List ℕ} (S : Shape parts N) (test : List ℕ → Bool) where
-  -- the tag of node i where its row passes
   own-tag : (i : ℕ) → map (tag N) (keep (answers test N) (i ∷ [])) ≡ someTag (cond (test (rowOf N i)) (tag N i) 0)
-  unfolding keep answers tagged someTag
-  own-tag i = go (test (rowOf N i)) (tag N i) refl
-    where
-      go : (b : Bool) (t : ℕ) → tag N i ≡ t → map (tag N) (cond (b && not (eqb t 0)) (i ∷ []) []) ≡ someTag (cond b t 0)
-      go b t e = ?
+  unfolding keep answers tagged
+  own-tag i = kept-tag N i (test (rowOf N i)) (tag N i) refl
+
+  pub from-none : tagsFrom test N 0 ≡ []
+  unfolding tagsFrom keep
+  from-none = rw (walk-none S)
+
+  split : (xs ys : List ℕ) → map (tag N) (keep (answers test N) (xs ++ ys)) ≡ map (tag N) (keep (answers test N) xs) ++ map (tag N) (keep (answers test N) ys)
+  split xs ys = ap (map (tag N)) (keep-append (answers test N) xs ys) ∙ map-append (tag N) (keep (answers test N) xs) (keep (answers test N) ys)
+
+  -- one step: its own tag, what is below, what is behind
+  from-step : (i : ℕ) → Used N i → tagsFrom test N i ≡ someTag (cond (test (rowOf N i)) (tag N i) 0) ++ (tagsFrom test N (child N i) ++ tagsFrom test N (next N i))
+  unfolding tagsFrom
+  from-step i u =
+      ap (λ l. map (tag N) (keep (answers test N) l)) (walk-some S i u)
+      ∙ split (i ∷ []) (walk N (child N i) ++ walk N (next N i))
+      ∙ ap₂ _++_ (own-tag i) (split (walk N (child N i)) (walk N (next N i)))
+
+  -- the whole walk: the root's tag first
+  pub from-root : tagsIn test N ≡ someTag (cond (test []) (tag N 0) 0) ++ tagsFrom test N (child N 0)
+  unfolding tagsIn tagsFrom walkAll
+  from-root =
+      split (0 ∷ []) (walk N (child N 0))
+      ∙ ap (λ l. l ++ map (tag N) (keep (answers test N) (walk N (child N 0)))) (own-tag 0 ∙ ap (λ r. someTag (cond (test r) (tag N 0) 0)) (row-root (climb S)))
+
+  pub root-asks : {c : ℕ} → c ≡ child N 0 → Asks test test N c
+  root-asks e = rw e (record {
+    live = root-child S;
+    left = λ g s. ap (λ r. test (r ++ s)) (ap (rowOf N) (S .head 0 (root-inside S) .back g) ∙ row-root (climb S));
+  })
+
+  -- where no row goes on from the node above with a label of at least this one, none passes here, below or behind
+  from-dead : (i : ℕ) → Live N i → (0 < i → (x : ℕ) (s : List ℕ) → label N i ≤ x → x ≤ parts → test (rowOf N (parent N i) ++ (x ∷ s)) ≡ false) → tagsFrom test N i ≡ []
+  from-dead i l =
+      ind S (λ (i : ℕ). (0 < i → (x : ℕ) (s : List ℕ) → label N i ≤ x → x ≤ parts → test (rowOf N (parent N i) ++ (x ∷ s)) ≡ false) → tagsFrom test N i ≡ [])
+      (λ h. from-none)
+      (λ i u c n h.
+      let g : (s : List ℕ) → test (rowOf N (parent N i) ++ (label N i ∷ s)) ≡ false = λ s. h (used-pos (climb S) i u) (label N i) s (omega arith) (S .good i u .place) in
+      let e : (s : List ℕ) → test (rowOf N i ++ s) ≡ false = λ s. ap test (ap (λ r. r ++ s) (row-step (climb S) i u) ∙ append-assoc (rowOf N (parent N i)) (label N i ∷ []) s) ∙ g s in
+      let o : test (rowOf N i) ≡ false = ap test (sym (append-nil (rowOf N i))) ∙ e [] in
+      let below : tagsFrom test N (child N i) ≡ [] = c (λ p x s q b. ap (λ r. test (r ++ (x ∷ s))) (ap (rowOf N) (S .head i (u .inside) .back p)) ∙ e (x ∷ s)) in
+      let behind : tagsFrom test N (next N i) ≡ [] = n (λ p x s q b. ap (λ r. test (r ++ (x ∷ s))) (ap (rowOf N) (S .good i u .same p)) ∙ h (used-pos (climb S) i u) x s (omega (arith, S .good i u .greater p)) b) in
+      let none : someTag (cond (test (rowOf N i)) (tag N i) 0) ≡ [] = some-none _ (ap (λ b. cond b (tag N i) 0) o) in
+      rw (from-step i u, none, below, behind))
+      i l
+
+-- What a walk knows once it has read a node's label
+pub record Visit (test rest : List ℕ → Bool) (N : List ℕ) (at l : ℕ) : Type 0 where
+  pub shape : Shape mostPlace N
+  pub asks : Asks test rest N at
+  pub pos : 0 < at
+  pub l-is : l ≡ label N at
+
+pub visit : {test rest : List ℕ → Bool} {N : List ℕ} {at l : ℕ} → Shape mostPlace N → Asks test rest N at → (at ≡ 0 → ⊥) → l ≡ label N at → Visit test rest N at l
+visit S A n e = record { shape = S; asks = A; pos = omega arith; l-is = e }
+
+-- a link that is followed is in the table
+pub asks-inside : {test rest : List ℕ → Bool} {N : List ℕ} {at : ℕ} → Asks test rest N at → (at ≡ 0 → ⊥) → at < size N
+asks-inside A n = A .live (omega arith) .inside
+
+module _ {test rest : List ℕ → Bool} {N : List ℕ} {at l : ℕ} (v : Visit test rest N at l) where
+  here : Used N at
+  here = v .asks .live (v .pos)
+
+  pub inside : at < size N
+  inside = here .inside
+
+  pub small : l ≤ mostPlace
+  small = omega (arith, v .l-is, v .shape .good at here .place)
+
+  -- no row goes on with this label or a greater one
+  pub stops : ((x : ℕ) (s : List ℕ) → l ≤ x → x ≤ mostPlace → rest (x ∷ s) ≡ false) → tagsFrom test N at ≡ []
+  stops f = from-dead (v .shape) test at (v .asks .live) (λ p x s q b. v .asks .left p (x ∷ s) ∙ f x s (omega (arith, v .l-is)) b)
+
+  -- what passes of the rows that go on with this label
+  on-with : (s : List ℕ) → test (rowOf N at ++ s) ≡ rest (l ∷ s)
+  on-with s =
+      ap test (ap (λ r. r ++ s) (row-step (climb (v .shape)) at here) ∙ append-assoc (rowOf N (parent N at)) (label N at ∷ []) s)
+      ∙ v .asks .left (v .pos) (label N at ∷ s) ∙ ap (λ x. rest (x ∷ s)) (sym (v .l-is))
+
+  next-asks : Asks test rest N (next N at)
+  next-asks = record {
+    live = v .shape .good at here .sibling;
+    left = λ g s. ap (λ i. test (rowOf N i ++ s)) (v .shape .good at here .same g) ∙ v .asks .left (v .pos) s;
+  }
+
+  pub to-next : {k t : ℕ} → k ≡ next N at → rank N at ≡ t → (rank N k < t) × Asks test rest N k
+  to-next e r = rw e (omega (arith, r, next-less (v .shape) at here), next-asks)
+
+  -- no row goes on with this label: what is left is behind
+  pub skips : {m : ℕ} → ((s : List ℕ) → rest (l ∷ s) ≡ false) → m ≡ next N at → tagsFrom test N at ≡ tagsFrom test N m
+  skips f e =
+      let o : test (rowOf N at) ≡ false = ap test (sym (append-nil (rowOf N at))) ∙ on-with [] ∙ f [] in
+      let none : someTag (cond (test (rowOf N at)) (tag N at) 0) ≡ [] = some-none _ (ap (λ b. cond b (tag N at) 0) o) in
+      let below : tagsFrom test N (child N at) ≡ [] = from-dead (v .shape) test (child N at) (child-live (v .shape) at inside)
+          (λ p x s q b. ap (λ i. test (rowOf N i ++ (x ∷ s))) (v .shape .head at inside .back p) ∙ on-with (x ∷ s) ∙ f (x ∷ s)) in
+      from-step (v .shape) test at here ∙ ap₂ _++_ none (ap₂ _++_ below (ap (tagsFrom test N) (sym e)))
+
+  -- some may: what is asked of them from here on is `on`
+  module _ (on : List ℕ → Bool) (f : (s : List ℕ) → rest (l ∷ s) ≡ on s) where
+    child-asks : Asks test on N (child N at)
+    child-asks = record {
+      live = child-live (v .shape) at inside;
+      left = λ g s. ap (λ i. test (rowOf N i ++ s)) (v .shape .head at inside .back g) ∙ on-with s ∙ f s;
+    }
+
+    pub to-child : {k t : ℕ} → k ≡ child N at → rank N at ≡ t → (rank N k < t) × Asks test on N k
+    to-child e r = rw e (omega (arith, r, child-less (v .shape) at here), child-asks)
+
+    module _ {t : ℕ} (own : t ≡ cond (on []) (tag N at) 0) where
+      parts-are : {k m : ℕ} → k ≡ child N at → m ≡ next N at → tagsFrom test N at ≡ someTag t ++ (tagsFrom test N k ++ tagsFrom test N m)
+      parts-are e g =
+          let o : test (rowOf N at) ≡ on [] = ap test (sym (append-nil (rowOf N at))) ∙ on-with [] ∙ f [] in
+          from-step (v .shape) test at here
+          ∙ ap₂ _++_ (ap someTag (ap (λ b. cond b (tag N at) 0) o ∙ sym own)) (ap₂ _++_ (ap (tagsFrom test N) (sym e)) (ap (tagsFrom test N) (sym g)))
+
+      pub found-own : (t ≡ 0 → ⊥) → t ≡ getD (tagsFrom test N at) 0 0
+      found-own n = sym (ap (λ l. getD l 0 0) (parts-are refl refl) ∙ first-own t (tagsFrom test N (child N at)) (tagsFrom test N (next N at)) n)
+
+      pub found-below : {k d : ℕ} → t ≡ 0 → k ≡ child N at → d ≡ getD (tagsFrom test N k) 0 0 → (d ≡ 0 → ⊥) → d ≡ getD (tagsFrom test N at) 0 0
+      found-below {k} {d} z e g n =
+          g ∙ sym (ap (λ l. getD l 0 0) (parts-are e refl) ∙ first-below t (tagsFrom test N k) (tagsFrom test N (next N at)) z (λ q. n (g ∙ q)))
+
+      pub found-behind : {k d m r : ℕ} → t ≡ 0 → k ≡ child N at → d ≡ getD (tagsFrom test N k) 0 0 → d ≡ 0 → m ≡ next N at → r ≡ getD (tagsFrom test N m) 0 0 → r ≡ getD (tagsFrom test N at) 0 0
+      unfolding tagsFrom
+      found-behind {k} {d} {m} z e g q h j =
+          j ∙ sym (ap (λ l. getD l 0 0) (parts-are e h) ∙ first-behind t (tagsFrom test N k) (tagsFrom test N m) z (first-none N test (walk N k) (sym g ∙ q)))
+
+      pub room : {k m : ℕ} → k ≡ child N at → m ≡ next N at → length (tagsFrom test N at) ≡ length (someTag t) + (length (tagsFrom test N k) + length (tagsFrom test N m))
+      room {k} {m} e g = ap length (parts-are e g) ∙ simp length-append
+
+      pub set-down : {k m n a b r : ℕ} {o o₁ o₂ o₃ : List ℕ} → k ≡ child N at → m ≡ next N at → Wrote o o₁ n a (someTag t) → Wrote o₁ o₂ a b (tagsFrom test N k) → Wrote o₂ o₃ b r (tagsFrom test N m) → Wrote o o₃ n r (tagsFrom test N at)
+      set-down e g x y z = rw (parts-are e g) (wrote-on x (wrote-on y z))

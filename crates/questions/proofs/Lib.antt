@@ -1,1 +1,3 @@
 -- The laws of the questions, for this crate and those above it.
+pub mod Asked
+pub mod Labels

@@ -45,7 +45,7 @@ pub record Asks (test rest : List ℕ → Bool) (N : List ℕ) (i : ℕ) : Type 
 
 -- top is the bin's last place, 0 where it has none
 pub record Tops (Q : List ℕ) (top : ℕ) : Type 0 where
-  pub past : (p : ℕ) → top < p → getD Q p 0 ≡ 0
+  pub past : (p : ℕ) → top < p → p ≤ mostPlace → getD Q p 0 ≡ 0
   pub some : 0 < top → 0 < getD Q top 0
 
 -- of the wanted place too few have come

@@ -1,9 +1,9 @@
 use Prim.Native.Nat.{ℕ, _<_}
 use borrow.Fn.Kinds.{In}
 use borrow.Fn.PlainCycle.{Measures, is, falls, and}
-use Rattle.questions.proofs.list_within.Reads as list-within
-use Rattle.questions.proofs.list_within.Kinds as list-within-kinds
-use Rattle.questions.proofs.+list_within.Lts-list_within as list-within-lts
+use Rattle.questions.proofs.list_within.Reads as own
+use Rattle.questions.proofs.list_within.Kinds as kinds
+use Rattle.questions.proofs.+list_within.Lts-list_within as lts
 use Rattle.nodes.proofs.child_at.Reads as child-at-reads
 use Rattle.nodes.proofs.label_at.Reads as label-at-reads
 use Rattle.nodes.proofs.next_at.Reads as next-at-reads
@@ -13,312 +13,25 @@ use Rattle.questions.proofs.put_tag.Reads as put-tag-reads
 use Rattle.questions.proofs.+list_within.{statement}
 use Rattle.questions.proofs.+list_within.Tie.{close}
 
-abbrev μ-list-within : Measures 3 list-within-kinds.ps ℕ
-μ-list-within κs a = ?
+abbrev μ : Measures 3 kinds.ps ℕ
+μ κs a = ?
 
-abbrev list-within-at : ℕ → In 3 list-within-kinds.ps
-list-within-at t =
-    and 3 list-within-kinds.ps (is 3 list-within-kinds.ps μ-list-within t) list-within.Pre
+abbrev At : ℕ → In 3 kinds.ps
+At t = and 3 kinds.ps (is 3 kinds.ps μ t) own.Pre
 
-abbrev list-within-below : ℕ → In 3 list-within-kinds.ps
-list-within-below t =
-    and 3 list-within-kinds.ps (falls 3 list-within-kinds.ps _<_ μ-list-within t) list-within.Pre
+abbrev Below : ℕ → In 3 kinds.ps
+Below t = and 3 kinds.ps (falls 3 kinds.ps _<_ μ t) own.Pre
 
--- src/lib.rt:130:9
-list-within-returns : (t : ℕ) → list-within-lts.Need-returns (
+abbrev R : ℕ → lts.Claims
+R t = (
   label-at-reads.Asked,
   label-at-reads.Learnt,
   come-again-reads.Asked,
   come-again-reads.Learnt,
   next-at-reads.Asked,
   next-at-reads.Learnt,
-  list-within-below t,
-  list-within.Post,
-  tag-at-reads.Asked,
-  tag-at-reads.Learnt,
-  put-tag-reads.Asked,
-  put-tag-reads.Learnt,
-  child-at-reads.Asked,
-  child-at-reads.Learnt,
-) (list-within-at t) list-within.Post
-list-within-returns t c = ?
-
--- src/lib.rt:132:9
-list-within-label-at-requires : (t : ℕ) → list-within-lts.Need-label-at-requires (
-  label-at-reads.Asked,
-  label-at-reads.Learnt,
-  come-again-reads.Asked,
-  come-again-reads.Learnt,
-  next-at-reads.Asked,
-  next-at-reads.Learnt,
-  list-within-below t,
-  list-within.Post,
-  tag-at-reads.Asked,
-  tag-at-reads.Learnt,
-  put-tag-reads.Asked,
-  put-tag-reads.Learnt,
-  child-at-reads.Asked,
-  child-at-reads.Learnt,
-) (list-within-at t) list-within.Post
-list-within-label-at-requires t c κs = ?
-
--- src/lib.rt:134:9
-list-within-returns-2 : (t : ℕ) → list-within-lts.Need-returns-2 (
-  label-at-reads.Asked,
-  label-at-reads.Learnt,
-  come-again-reads.Asked,
-  come-again-reads.Learnt,
-  next-at-reads.Asked,
-  next-at-reads.Learnt,
-  list-within-below t,
-  list-within.Post,
-  tag-at-reads.Asked,
-  tag-at-reads.Learnt,
-  put-tag-reads.Asked,
-  put-tag-reads.Learnt,
-  child-at-reads.Asked,
-  child-at-reads.Learnt,
-) (list-within-at t) list-within.Post
-list-within-returns-2 t c = ?
-
--- src/lib.rt:136:9
-list-within-come-again-requires : (t : ℕ) → list-within-lts.Need-come-again-requires (
-  label-at-reads.Asked,
-  label-at-reads.Learnt,
-  come-again-reads.Asked,
-  come-again-reads.Learnt,
-  next-at-reads.Asked,
-  next-at-reads.Learnt,
-  list-within-below t,
-  list-within.Post,
-  tag-at-reads.Asked,
-  tag-at-reads.Learnt,
-  put-tag-reads.Asked,
-  put-tag-reads.Learnt,
-  child-at-reads.Asked,
-  child-at-reads.Learnt,
-) (list-within-at t) list-within.Post
-list-within-come-again-requires t c κs = ?
-
--- src/lib.rt:137:9
-list-within-next-at-requires : (t : ℕ) → list-within-lts.Need-next-at-requires (
-  label-at-reads.Asked,
-  label-at-reads.Learnt,
-  come-again-reads.Asked,
-  come-again-reads.Learnt,
-  next-at-reads.Asked,
-  next-at-reads.Learnt,
-  list-within-below t,
-  list-within.Post,
-  tag-at-reads.Asked,
-  tag-at-reads.Learnt,
-  put-tag-reads.Asked,
-  put-tag-reads.Learnt,
-  child-at-reads.Asked,
-  child-at-reads.Learnt,
-) (list-within-at t) list-within.Post
-list-within-next-at-requires t c κs = ?
-
--- src/lib.rt:139:9
-list-within-list-within-requires : (t : ℕ) → list-within-lts.Need-list-within-requires (
-  label-at-reads.Asked,
-  label-at-reads.Learnt,
-  come-again-reads.Asked,
-  come-again-reads.Learnt,
-  next-at-reads.Asked,
-  next-at-reads.Learnt,
-  list-within-below t,
-  list-within.Post,
-  tag-at-reads.Asked,
-  tag-at-reads.Learnt,
-  put-tag-reads.Asked,
-  put-tag-reads.Learnt,
-  child-at-reads.Asked,
-  child-at-reads.Learnt,
-) (list-within-at t) list-within.Post
-list-within-list-within-requires t c κs = ?
-
--- src/lib.rt:139:9
-list-within-same-length : (t : ℕ) → list-within-lts.Need-same-length (
-  label-at-reads.Asked,
-  label-at-reads.Learnt,
-  come-again-reads.Asked,
-  come-again-reads.Learnt,
-  next-at-reads.Asked,
-  next-at-reads.Learnt,
-  list-within-below t,
-  list-within.Post,
-  tag-at-reads.Asked,
-  tag-at-reads.Learnt,
-  put-tag-reads.Asked,
-  put-tag-reads.Learnt,
-  child-at-reads.Asked,
-  child-at-reads.Learnt,
-) (list-within-at t) list-within.Post
-list-within-same-length t c = ?
-
--- src/lib.rt:139:9
-list-within-returns-3 : (t : ℕ) → list-within-lts.Need-returns-3 (
-  label-at-reads.Asked,
-  label-at-reads.Learnt,
-  come-again-reads.Asked,
-  come-again-reads.Learnt,
-  next-at-reads.Asked,
-  next-at-reads.Learnt,
-  list-within-below t,
-  list-within.Post,
-  tag-at-reads.Asked,
-  tag-at-reads.Learnt,
-  put-tag-reads.Asked,
-  put-tag-reads.Learnt,
-  child-at-reads.Asked,
-  child-at-reads.Learnt,
-) (list-within-at t) list-within.Post
-list-within-returns-3 t c = ?
-
--- src/lib.rt:141:29
-list-within-tag-at-requires : (t : ℕ) → list-within-lts.Need-tag-at-requires (
-  label-at-reads.Asked,
-  label-at-reads.Learnt,
-  come-again-reads.Asked,
-  come-again-reads.Learnt,
-  next-at-reads.Asked,
-  next-at-reads.Learnt,
-  list-within-below t,
-  list-within.Post,
-  tag-at-reads.Asked,
-  tag-at-reads.Learnt,
-  put-tag-reads.Asked,
-  put-tag-reads.Learnt,
-  child-at-reads.Asked,
-  child-at-reads.Learnt,
-) (list-within-at t) list-within.Post
-list-within-tag-at-requires t c κs = ?
-
--- src/lib.rt:141:9
-list-within-put-tag-requires : (t : ℕ) → list-within-lts.Need-put-tag-requires (
-  label-at-reads.Asked,
-  label-at-reads.Learnt,
-  come-again-reads.Asked,
-  come-again-reads.Learnt,
-  next-at-reads.Asked,
-  next-at-reads.Learnt,
-  list-within-below t,
-  list-within.Post,
-  tag-at-reads.Asked,
-  tag-at-reads.Learnt,
-  put-tag-reads.Asked,
-  put-tag-reads.Learnt,
-  child-at-reads.Asked,
-  child-at-reads.Learnt,
-) (list-within-at t) list-within.Post
-list-within-put-tag-requires t c κs = ?
-
--- src/lib.rt:142:50
-list-within-child-at-requires : (t : ℕ) → list-within-lts.Need-child-at-requires (
-  label-at-reads.Asked,
-  label-at-reads.Learnt,
-  come-again-reads.Asked,
-  come-again-reads.Learnt,
-  next-at-reads.Asked,
-  next-at-reads.Learnt,
-  list-within-below t,
-  list-within.Post,
-  tag-at-reads.Asked,
-  tag-at-reads.Learnt,
-  put-tag-reads.Asked,
-  put-tag-reads.Learnt,
-  child-at-reads.Asked,
-  child-at-reads.Learnt,
-) (list-within-at t) list-within.Post
-list-within-child-at-requires t c κs = ?
-
--- src/lib.rt:142:9
-list-within-list-within-requires-2 : (t : ℕ) → list-within-lts.Need-list-within-requires-2 (
-  label-at-reads.Asked,
-  label-at-reads.Learnt,
-  come-again-reads.Asked,
-  come-again-reads.Learnt,
-  next-at-reads.Asked,
-  next-at-reads.Learnt,
-  list-within-below t,
-  list-within.Post,
-  tag-at-reads.Asked,
-  tag-at-reads.Learnt,
-  put-tag-reads.Asked,
-  put-tag-reads.Learnt,
-  child-at-reads.Asked,
-  child-at-reads.Learnt,
-) (list-within-at t) list-within.Post
-list-within-list-within-requires-2 t c κs = ?
-
--- src/lib.rt:143:5
-list-within-list-within-requires-3 : (t : ℕ) → list-within-lts.Need-list-within-requires-3 (
-  label-at-reads.Asked,
-  label-at-reads.Learnt,
-  come-again-reads.Asked,
-  come-again-reads.Learnt,
-  next-at-reads.Asked,
-  next-at-reads.Learnt,
-  list-within-below t,
-  list-within.Post,
-  tag-at-reads.Asked,
-  tag-at-reads.Learnt,
-  put-tag-reads.Asked,
-  put-tag-reads.Learnt,
-  child-at-reads.Asked,
-  child-at-reads.Learnt,
-) (list-within-at t) list-within.Post
-list-within-list-within-requires-3 t c κs = ?
-
--- src/lib.rt:116:1
-list-within-same-length-2 : (t : ℕ) → list-within-lts.Need-same-length-2 (
-  label-at-reads.Asked,
-  label-at-reads.Learnt,
-  come-again-reads.Asked,
-  come-again-reads.Learnt,
-  next-at-reads.Asked,
-  next-at-reads.Learnt,
-  list-within-below t,
-  list-within.Post,
-  tag-at-reads.Asked,
-  tag-at-reads.Learnt,
-  put-tag-reads.Asked,
-  put-tag-reads.Learnt,
-  child-at-reads.Asked,
-  child-at-reads.Learnt,
-) (list-within-at t) list-within.Post
-list-within-same-length-2 t c = ?
-
--- src/lib.rt:116:1
-list-within-returns-4 : (t : ℕ) → list-within-lts.Need-returns-4 (
-  label-at-reads.Asked,
-  label-at-reads.Learnt,
-  come-again-reads.Asked,
-  come-again-reads.Learnt,
-  next-at-reads.Asked,
-  next-at-reads.Learnt,
-  list-within-below t,
-  list-within.Post,
-  tag-at-reads.Asked,
-  tag-at-reads.Learnt,
-  put-tag-reads.Asked,
-  put-tag-reads.Learnt,
-  child-at-reads.Asked,
-  child-at-reads.Learnt,
-) (list-within-at t) list-within.Post
-list-within-returns-4 t c = ?
-
-pub +list-within-spec : {M : Type 1} → statement M
-+list-within-spec = close μ-list-within λ t. list-within-lts.spec (
-  label-at-reads.Asked,
-  label-at-reads.Learnt,
-  come-again-reads.Asked,
-  come-again-reads.Learnt,
-  next-at-reads.Asked,
-  next-at-reads.Learnt,
-  list-within-below t,
-  list-within.Post,
+  Below t,
+  own.Post,
   tag-at-reads.Asked,
   tag-at-reads.Learnt,
   put-tag-reads.Asked,
@@ -326,20 +39,68 @@ pub +list-within-spec : {M : Type 1} → statement M
   child-at-reads.Asked,
   child-at-reads.Learnt,
 )
-    (list-within-at t)
-    list-within.Post
-    (list-within-returns t)
-    (list-within-label-at-requires t)
-    (list-within-returns-2 t)
-    (list-within-come-again-requires t)
-    (list-within-next-at-requires t)
-    (list-within-list-within-requires t)
-    (list-within-same-length t)
-    (list-within-returns-3 t)
-    (list-within-tag-at-requires t)
-    (list-within-put-tag-requires t)
-    (list-within-child-at-requires t)
-    (list-within-list-within-requires-2 t)
-    (list-within-list-within-requires-3 t)
-    (list-within-same-length-2 t)
-    (list-within-returns-4 t)
+
+module _ (t : ℕ) where
+  returns : lts.Need-returns (R t) (At t) own.Post
+  returns c = ?
+
+  label-at-requires : lts.Need-label-at-requires (R t) (At t) own.Post
+  label-at-requires c κs = ?
+
+  returns-2 : lts.Need-returns-2 (R t) (At t) own.Post
+  returns-2 c = ?
+
+  come-again-requires : lts.Need-come-again-requires (R t) (At t) own.Post
+  come-again-requires c κs = ?
+
+  next-at-requires : lts.Need-next-at-requires (R t) (At t) own.Post
+  next-at-requires c κs = ?
+
+  list-within-requires : lts.Need-list-within-requires (R t) (At t) own.Post
+  list-within-requires c κs = ?
+
+  same-length : lts.Need-same-length (R t) (At t) own.Post
+  same-length c = ?
+
+  returns-3 : lts.Need-returns-3 (R t) (At t) own.Post
+  returns-3 c = ?
+
+  tag-at-requires : lts.Need-tag-at-requires (R t) (At t) own.Post
+  tag-at-requires c κs = ?
+
+  put-tag-requires : lts.Need-put-tag-requires (R t) (At t) own.Post
+  put-tag-requires c κs = ?
+
+  child-at-requires : lts.Need-child-at-requires (R t) (At t) own.Post
+  child-at-requires c κs = ?
+
+  list-within-requires-2 : lts.Need-list-within-requires-2 (R t) (At t) own.Post
+  list-within-requires-2 c κs = ?
+
+  list-within-requires-3 : lts.Need-list-within-requires-3 (R t) (At t) own.Post
+  list-within-requires-3 c κs = ?
+
+  same-length-2 : lts.Need-same-length-2 (R t) (At t) own.Post
+  same-length-2 c = ?
+
+  returns-4 : lts.Need-returns-4 (R t) (At t) own.Post
+  returns-4 c = ?
+
+pub +list-within-spec : {M : Type 1} → statement M
++list-within-spec =
+    close μ λ t. lts.spec (R t) (At t) own.Post
+    (returns t)
+    (label-at-requires t)
+    (returns-2 t)
+    (come-again-requires t)
+    (next-at-requires t)
+    (list-within-requires t)
+    (same-length t)
+    (returns-3 t)
+    (tag-at-requires t)
+    (put-tag-requires t)
+    (child-at-requires t)
+    (list-within-requires-2 t)
+    (list-within-requires-3 t)
+    (same-length-2 t)
+    (returns-4 t)

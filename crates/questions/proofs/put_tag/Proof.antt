@@ -1,3 +1,5 @@
+use Rattle.questions.proofs.Asked.{some-none, wrote-none, wrote-one, wrote-past}
+use Rattle.questions.specs.Walks.{someTag}
 use borrow.Author.Needs.{needs}
 use Rattle.questions.proofs.put_tag.Statement.{statement}
 use Rattle.questions.proofs.put_tag.Tie as tie
@@ -6,7 +8,7 @@ use Rattle.questions.proofs.put_tag.Lts as lts
 
 -- src/lib.rt:39:9
 returns : tie.Need-returns
-returns c = ?
+returns c = wrote-none (c .before .args .out .now) (c .before .args .n) (someTag (c .before .args .t)) (some-none (c .before .args .t) (c .if1 .taken))
 
 -- src/lib.rt:42:9
 mul-out : tie.Need-mul-out
@@ -26,7 +28,7 @@ same-length c = search needs
 
 -- src/lib.rt:43:9
 returns-2 : tie.Need-returns-2
-returns-2 c = ?
+returns-2 c = wrote-one (c .before .before .args .out .now) (c .before .before .args .n) (c .before .before .args .t) (c .before .if1 .left)
 
 -- src/lib.rt:45:5
 add-result-2 : tie.Need-add-result-2
@@ -34,7 +36,7 @@ add-result-2 c = search needs
 
 -- src/lib.rt:34:1
 returns-3 : tie.Need-returns-3
-returns-3 c = ?
+returns-3 c = wrote-past (c .before .before .args .out .now) (c .before .before .args .n) (c .before .before .args .t) (c .before .if1 .left) (c .if2 .left)
 
 pub put-tag-spec : {M : Type 1} → statement M
 put-tag-spec =

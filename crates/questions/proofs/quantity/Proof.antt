@@ -1,3 +1,5 @@
+use mathlib.Core.Path.{ap}
+use lib.ListN.{getD}
 use borrow.Author.Needs.{needs}
 use Rattle.questions.proofs.quantity.Statement.{statement}
 use Rattle.questions.proofs.quantity.Tie as tie
@@ -19,7 +21,7 @@ element-copy-out-result c = search needs
 
 -- src/lib.rt:26:1
 returns : tie.Need-returns
-returns c = ?
+returns c = ap (λ i. getD (c .before .before .args .amounts .now) i 0) (c .before .wide16 .ensures .0)
 
 pub quantity-spec : {M : Type 1} → statement M
 quantity-spec = tie.close (tie.spec wide16-requires mul-result element-copy-out-result returns)

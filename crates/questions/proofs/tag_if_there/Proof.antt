@@ -1,3 +1,5 @@
+use Rattle.questions.proofs.Labels.{there-yes, there-no}
+use Rattle.nodes.specs.Nodes.{tag}
 use borrow.Author.Needs.{needs}
 use Rattle.questions.proofs.tag_if_there.Statement.{statement}
 use Rattle.questions.proofs.tag_if_there.Tie as tie
@@ -11,11 +13,11 @@ tag-at-requires c κs = search needs
 
 -- src/lib.rt:240:9
 returns : tie.Need-returns
-returns c = ?
+returns c = there-yes (c .before .before .before .args .want) (tag (c .before .before .before .args .nodes .now) (c .before .before .before .args .at)) (c .before .if1 .taken) (c .tag-at .ensures)
 
 -- src/lib.rt:235:1
 returns-2 : tie.Need-returns-2
-returns-2 c = ?
+returns-2 c = there-no (c .before .before .args .want) (tag (c .before .before .args .nodes .now) (c .before .before .args .at)) (c .if1 .left)
 
 pub tag-if-there-spec : {M : Type 1} → statement M
 tag-if-there-spec = tie.close (tie.spec tag-at-requires returns returns-2)
