@@ -1,24 +1,25 @@
 -- The walk of a question, whichever it is: one step of it, where it may stop, the first tag, and the tags set down.
 use mathlib.Core.Path.{_≡_, refl, sym, ap, ap₂, _∙_}
-use mathlib.Core.Logic.{⊎-elim}
 use mathlib.Core.Bool.{Bool, true, false, cond, not, _&&_}
 use mathlib.Core.List.{List, [], _∷_, _++_, map, append-assoc, append-nil}
 use Prim.Native.Nat.{ℕ, zero, suc, _+_, _≤_, _<_}
 use native.Mathlib.Nat.{add-zero}
 use native.Mathlib.Omega.{arith}
-use lib.ListN.{length, getD, set, length-append}
+use lib.ListN.{length, getD, set, length-append, length-map}
 use lib.Seq.{sets}
 use lib.Dec.{eqb}
 use borrow.Author.Tests.{eq-eqb, ne-eqb}
-use Rattle.ground.specs.Lists.{keep}
-use Rattle.ground.proofs.Laws.{map-append, and-right}
+use Rattle.ground.specs.Lists.{keep, from}
+use Rattle.ground.proofs.Laws.{map-append, and-right, by-cond, length-from}
 use Rattle.kits.specs.Kits.{mostPlace}
-use Rattle.nodes.specs.Nodes.{parent, child, next, label, tag, tagged, size, rowOf}
+use Rattle.nodes.specs.Nodes.{mostNodes, parent, child, next, label, tag, tagged, size, nodesOf, rowOf}
 use Rattle.nodes.specs.Sound.{Used, Live, Shape}
 use Rattle.nodes.specs.Walk.{rank, walk, walkAll}
 use Rattle.nodes.proofs.Lists.{never}
-use Rattle.nodes.proofs.Rows.{climb, used-pos, row-root, row-step}
+use Rattle.nodes.proofs.Sorted.{no-longer, mem-from}
+use Rattle.nodes.proofs.Rows.{climb, used-pos, live-inside, row-root, row-step}
 use Rattle.nodes.proofs.Walk.{root-inside, root-child, child-live, child-less, next-less, walk-none, walk-some, ind}
+use Rattle.nodes.proofs.Order.{walk-once, walk-only}
 use Rattle.questions.specs.Walks.{answers, tagsFrom, tagsIn, someTag, Asks, Wrote}
 
 pub keep-append : {A : Type 0} (p : A → Bool) (xs ys : List A) → keep p (xs ++ ys) ≡ keep p xs ++ keep p ys
@@ -29,6 +30,11 @@ keep-append p (x ∷ xs) ys = go (p x) (keep-append p xs ys)
     go : (b : Bool) → keep p (xs ++ ys) ≡ keep p xs ++ keep p ys → cond b (x ∷ keep p (xs ++ ys)) (keep p (xs ++ ys)) ≡ cond b (x ∷ keep p xs) (keep p xs) ++ keep p ys
     go true e = ap (_∷_ x) e
     go false e = e
+
+keep-few : {A : Type 0} (p : A → Bool) (xs : List A) → length (keep p xs) ≤ length xs
+unfolding keep
+keep-few p [] = omega arith
+keep-few p (x ∷ xs) = by-cond (λ l. length l ≤ suc (length xs)) (p x) (x ∷ keep p xs) (keep p xs) (λ e. omega (arith, keep-few p xs)) (λ e. omega (arith, keep-few p xs))
 
 -- a tag that is 0, and one that is not
 pub some-none : (t : ℕ) → t ≡ 0 → someTag t ≡ []
@@ -42,10 +48,10 @@ some-one zero n = absurd (n refl)
 some-one (suc t) n = refl
 
 -- the first of a tag, what is below, and what is behind
-module _ (t : ℕ) (xs ys : List ℕ) where
-  first-own : (t ≡ 0 → ⊥) → getD (someTag t ++ (xs ++ ys)) 0 0 ≡ t
-  first-own n = rw (some-one t n)
+first-own : (t : ℕ) (xs : List ℕ) → (t ≡ 0 → ⊥) → getD (someTag t ++ xs) 0 0 ≡ t
+first-own t xs n = rw (some-one t n)
 
+module _ (t : ℕ) (xs ys : List ℕ) where
   first-below : t ≡ 0 → (getD xs 0 0 ≡ 0 → ⊥) → getD (someTag t ++ (xs ++ ys)) 0 0 ≡ getD xs 0 0
   first-below e n = rw (some-none t e) (go xs n)
     where
@@ -62,6 +68,16 @@ sets-append o n [] ys = rw add-zero
 sets-append o n (x ∷ xs) ys =
     let e : suc n + length xs ≡ n + suc (length xs) = omega arith in
     rw (← e) (sets-append (set o n x) (suc n) xs ys)
+
+-- where there is no tag, none is first
+pub no-first : {ts : List ℕ} → ts ≡ [] → 0 ≡ getD ts 0 0
+no-first e = rw e
+
+pub same-first : {xs ys : List ℕ} {r : ℕ} → xs ≡ ys → r ≡ getD ys 0 0 → r ≡ getD xs 0 0
+same-first e f = f ∙ ap (λ l. getD l 0 0) (sym e)
+
+pub wrote-same : {o o′ : List ℕ} {n r : ℕ} {xs ys : List ℕ} → xs ≡ ys → Wrote o o′ n r ys → Wrote o o′ n r xs
+wrote-same e w = rw e w
 
 pub wrote-none : (o : List ℕ) (n : ℕ) (ts : List ℕ) → ts ≡ [] → Wrote o o n n ts
 wrote-none o n ts e = rw e (record { ends = omega arith; is = refl })
@@ -135,6 +151,21 @@ module _ {parts : ℕ} {N : List ℕ} (S : Shape parts N) (test : List ℕ → B
     left = λ g s. ap (λ r. test (r ++ s)) (ap (rowOf N) (S .head 0 (root-inside S) .back g) ∙ row-root (climb S));
   })
 
+  pub none-at : {i : ℕ} → i ≡ 0 → tagsFrom test N i ≡ []
+  none-at e = ap (tagsFrom test N) e ∙ from-none
+
+  -- no more than the table has nodes
+  pub tags-few : length (tagsIn test N) ≤ mostNodes
+  unfolding tagsIn nodesOf
+  tags-few = omega (
+    arith,
+    length-map (keep (answers test N) (walkAll N)) (tag N),
+    keep-few (answers test N) (walkAll N),
+    S .sized .most,
+    length-from 0 (size N),
+    no-longer (walkAll N) (from 0 (size N)) (walk-once S) (λ i m. mem-from (size N) 0 i (omega arith) (omega (arith, live-inside (climb S) i (walk-only S i m)))),
+  )
+
   -- where no row goes on from the node above with a label of at least this one, none passes here, below or behind
   from-dead : (i : ℕ) → Live N i → (0 < i → (x : ℕ) (s : List ℕ) → label N i ≤ x → x ≤ parts → test (rowOf N (parent N i) ++ (x ∷ s)) ≡ false) → tagsFrom test N i ≡ []
   from-dead i l =
@@ -199,41 +230,66 @@ module _ {test rest : List ℕ → Bool} {N : List ℕ} {at l : ℕ} (v : Visit 
       let o : test (rowOf N at) ≡ false = ap test (sym (append-nil (rowOf N at))) ∙ on-with [] ∙ f [] in
       let none : someTag (cond (test (rowOf N at)) (tag N at) 0) ≡ [] = some-none _ (ap (λ b. cond b (tag N at) 0) o) in
       let below : tagsFrom test N (child N at) ≡ [] = from-dead (v .shape) test (child N at) (child-live (v .shape) at inside)
-          (λ p x s q b. ap (λ i. test (rowOf N i ++ (x ∷ s))) (v .shape .head at inside .back p) ∙ on-with (x ∷ s) ∙ f (x ∷ s)) in
+      (λ p x s q b. ap (λ i. test (rowOf N i ++ (x ∷ s))) (v .shape .head at inside .back p) ∙ on-with (x ∷ s) ∙ f (x ∷ s)) in
       from-step (v .shape) test at here ∙ ap₂ _++_ none (ap₂ _++_ below (ap (tagsFrom test N) (sym e)))
 
-  -- some may: what is asked of them from here on is `on`
-  module _ (on : List ℕ → Bool) (f : (s : List ℕ) → rest (l ∷ s) ≡ on s) where
-    child-asks : Asks test on N (child N at)
-    child-asks = record {
-      live = child-live (v .shape) at inside;
-      left = λ g s. ap (λ i. test (rowOf N i ++ s)) (v .shape .head at inside .back g) ∙ on-with s ∙ f s;
-    }
+-- What it knows once it has entered the node: some rows may go on with its label, `on` is asked of what is to come behind it, and t is the node's tag
+-- where its own row passes
+pub record Enters (test rest on : List ℕ → Bool) (N : List ℕ) (at l t : ℕ) : Type 0 where
+  pub seen : Visit test rest N at l
+  pub goes : (s : List ℕ) → rest (l ∷ s) ≡ on s
+  pub own : t ≡ cond (on []) (tag N at) 0
 
-    pub to-child : {k t : ℕ} → k ≡ child N at → rank N at ≡ t → (rank N k < t) × Asks test on N k
-    to-child e r = rw e (omega (arith, r, child-less (v .shape) at here), child-asks)
+module _ {test rest on : List ℕ → Bool} {N : List ℕ} {at l t : ℕ} (E : Enters test rest on N at l t) where
+  passes : (s : List ℕ) → test (rowOf N at ++ s) ≡ on s
+  passes s = on-with (E .seen) s ∙ E .goes s
 
-    module _ {t : ℕ} (own : t ≡ cond (on []) (tag N at) 0) where
-      parts-are : {k m : ℕ} → k ≡ child N at → m ≡ next N at → tagsFrom test N at ≡ someTag t ++ (tagsFrom test N k ++ tagsFrom test N m)
-      parts-are e g =
-          let o : test (rowOf N at) ≡ on [] = ap test (sym (append-nil (rowOf N at))) ∙ on-with [] ∙ f [] in
-          from-step (v .shape) test at here
-          ∙ ap₂ _++_ (ap someTag (ap (λ b. cond b (tag N at) 0) o ∙ sym own)) (ap₂ _++_ (ap (tagsFrom test N) (sym e)) (ap (tagsFrom test N) (sym g)))
+  child-asks : Asks test on N (child N at)
+  child-asks = record {
+    live = child-live (E .seen .shape) at (inside (E .seen));
+    left = λ g s. ap (λ i. test (rowOf N i ++ s)) (E .seen .shape .head at (inside (E .seen)) .back g) ∙ passes s;
+  }
 
-      pub found-own : (t ≡ 0 → ⊥) → t ≡ getD (tagsFrom test N at) 0 0
-      found-own n = sym (ap (λ l. getD l 0 0) (parts-are refl refl) ∙ first-own t (tagsFrom test N (child N at)) (tagsFrom test N (next N at)) n)
+  pub to-child : {k r : ℕ} → k ≡ child N at → rank N at ≡ r → (rank N k < r) × Asks test on N k
+  to-child e r = rw e (omega (arith, r, child-less (E .seen .shape) at (here (E .seen))), child-asks)
 
-      pub found-below : {k d : ℕ} → t ≡ 0 → k ≡ child N at → d ≡ getD (tagsFrom test N k) 0 0 → (d ≡ 0 → ⊥) → d ≡ getD (tagsFrom test N at) 0 0
-      found-below {k} {d} z e g n =
-          g ∙ sym (ap (λ l. getD l 0 0) (parts-are e refl) ∙ first-below t (tagsFrom test N k) (tagsFrom test N (next N at)) z (λ q. n (g ∙ q)))
+  parts-are : {k m : ℕ} → k ≡ child N at → m ≡ next N at → tagsFrom test N at ≡ someTag t ++ (tagsFrom test N k ++ tagsFrom test N m)
+  parts-are e g =
+      let o : test (rowOf N at) ≡ on [] = ap test (sym (append-nil (rowOf N at))) ∙ passes [] in
+      from-step (E .seen .shape) test at (here (E .seen))
+      ∙ ap₂ _++_ (ap someTag (ap (λ b. cond b (tag N at) 0) o ∙ sym (E .own))) (ap₂ _++_ (ap (tagsFrom test N) (sym e)) (ap (tagsFrom test N) (sym g)))
 
-      pub found-behind : {k d m r : ℕ} → t ≡ 0 → k ≡ child N at → d ≡ getD (tagsFrom test N k) 0 0 → d ≡ 0 → m ≡ next N at → r ≡ getD (tagsFrom test N m) 0 0 → r ≡ getD (tagsFrom test N at) 0 0
-      unfolding tagsFrom
-      found-behind {k} {d} {m} z e g q h j =
-          j ∙ sym (ap (λ l. getD l 0 0) (parts-are e h) ∙ first-behind t (tagsFrom test N k) (tagsFrom test N m) z (first-none N test (walk N k) (sym g ∙ q)))
+  pub found-own : (t ≡ 0 → ⊥) → t ≡ getD (tagsFrom test N at) 0 0
+  found-own n = sym (ap (λ l. getD l 0 0) (parts-are refl refl) ∙ first-own t (tagsFrom test N (child N at) ++ tagsFrom test N (next N at)) n)
 
-      pub room : {k m : ℕ} → k ≡ child N at → m ≡ next N at → length (tagsFrom test N at) ≡ length (someTag t) + (length (tagsFrom test N k) + length (tagsFrom test N m))
-      room {k} {m} e g = ap length (parts-are e g) ∙ simp length-append
+  pub found-below : {k d : ℕ} → t ≡ 0 → k ≡ child N at → d ≡ getD (tagsFrom test N k) 0 0 → (d ≡ 0 → ⊥) → d ≡ getD (tagsFrom test N at) 0 0
+  found-below {k} {d} z e g n =
+      g ∙ sym (ap (λ l. getD l 0 0) (parts-are e refl) ∙ first-below t (tagsFrom test N k) (tagsFrom test N (next N at)) z (λ q. n (g ∙ q)))
 
-      pub set-down : {k m n a b r : ℕ} {o o₁ o₂ o₃ : List ℕ} → k ≡ child N at → m ≡ next N at → Wrote o o₁ n a (someTag t) → Wrote o₁ o₂ a b (tagsFrom test N k) → Wrote o₂ o₃ b r (tagsFrom test N m) → Wrote o o₃ n r (tagsFrom test N at)
-      set-down e g x y z = rw (parts-are e g) (wrote-on x (wrote-on y z))
+  pub found-behind : {k d m r : ℕ} → t ≡ 0 → k ≡ child N at → d ≡ getD (tagsFrom test N k) 0 0 → d ≡ 0 → m ≡ next N at → r ≡ getD (tagsFrom test N m) 0 0 → r ≡ getD (tagsFrom test N at) 0 0
+  unfolding tagsFrom
+  found-behind {k} {d} {m} z e g q h j =
+      j ∙ sym (ap (λ l. getD l 0 0) (parts-are e h) ∙ first-behind t (tagsFrom test N k) (tagsFrom test N m) z (first-none N test (walk N k) (sym g ∙ q)))
+
+  pub room : {k m : ℕ} → k ≡ child N at → m ≡ next N at → length (tagsFrom test N at) ≡ length (someTag t) + (length (tagsFrom test N k) + length (tagsFrom test N m))
+  room {k} {m} e g = ap length (parts-are e g) ∙ simp length-append
+
+  pub set-down : {k m n a b r : ℕ} {o o₁ o₂ o₃ : List ℕ} → k ≡ child N at → m ≡ next N at → Wrote o o₁ n a (someTag t) → Wrote o₁ o₂ a b (tagsFrom test N k) → Wrote o₂ o₃ b r (tagsFrom test N m) → Wrote o o₃ n r (tagsFrom test N at)
+  set-down e g x y z = rw (parts-are e g) (wrote-on x (wrote-on y z))
+
+-- The whole table: t is the root's tag where the empty row passes
+module _ {N : List ℕ} (S : Shape mostPlace N) (test : List ℕ → Bool) {t k : ℕ} (own : t ≡ cond (test []) (tag N 0) 0) (e : k ≡ child N 0) where
+  root-parts : tagsIn test N ≡ someTag t ++ tagsFrom test N k
+  root-parts = from-root S test ∙ ap₂ _++_ (ap someTag (sym own)) (ap (tagsFrom test N) (sym e))
+
+  pub root-found : (t ≡ 0 → ⊥) → t ≡ getD (tagsIn test N) 0 0
+  root-found n = sym (ap (λ l. getD l 0 0) root-parts ∙ first-own t (tagsFrom test N k) n)
+
+  pub root-behind : {r : ℕ} → t ≡ 0 → r ≡ getD (tagsFrom test N k) 0 0 → r ≡ getD (tagsIn test N) 0 0
+  root-behind z f = f ∙ sym (ap (λ l. getD l 0 0) (root-parts ∙ ap (λ l. l ++ tagsFrom test N k) (some-none t z)))
+
+  pub root-room : length (someTag t) + length (tagsFrom test N k) ≤ mostNodes
+  root-room = omega (arith, ap length root-parts, length-append (someTag t) (tagsFrom test N k), tags-few S test)
+
+  pub root-set : {a r : ℕ} {o o₁ o₂ : List ℕ} → Wrote o o₁ 0 a (someTag t) → Wrote o₁ o₂ a r (tagsFrom test N k) → Wrote o o₂ 0 r (tagsIn test N)
+  root-set x y = rw root-parts (wrote-on x y)

@@ -1,9 +1,9 @@
 -- What a label makes of what is asked of a row: for both questions, the step of each walk.
-use mathlib.Core.Path.{_≡_, refl, sym, subst, _∙_}
+use mathlib.Core.Path.{_≡_, refl, sym, ap, subst, _∙_}
 use mathlib.Core.Logic.{_≢_, ⊎-elim}
 use mathlib.Core.Bool.{Bool, true, false, cond, _&&_}
 use mathlib.Core.List.{List, [], _∷_}
-use Prim.Native.Nat.{ℕ, zero, suc, _+_, _-_, _≤_, _<_}
+use Prim.Native.Nat.{ℕ, suc, _+_, _-_, _≤_, _<_}
 use native.Mathlib.Numerals.{add-one}
 use native.Mathlib.Omega.{arith}
 use lib.ListN.{getD}
@@ -13,9 +13,11 @@ use Rattle.ground.proofs.Laws.{by-cond, below-or, firstFrom-here, firstFrom-on,
 use Rattle.kits.specs.Kits.{mostPlace}
 use Rattle.kits.specs.Along.{fitsAlong, isWanted, nextWanted, coversAlong}
 use Rattle.kits.proofs.Along.{next-wanted}
+use Rattle.nodes.specs.Nodes.{next, tag}
 use Rattle.nodes.proofs.Lists.{same-or}
-use Rattle.questions.specs.Walks.{Tops, Short, come, wantAfter}
+use Rattle.questions.specs.Walks.{fits, covers, tagsFrom, Asks, Tops, Short, come, wantAfter}
 use Rattle.questions.specs.declared.Want.{Want}
+use Rattle.questions.proofs.Asked.{Visit, stops, skips, Enters}
 
 -- Within a bin: the label x comes behind `last`, which has come `had` times
 module _ (Q : List ℕ) (x last had : ℕ) (s : List ℕ) where
@@ -136,3 +138,38 @@ module _ (w t : ℕ) where
 
   pub there-no : (w ≡ mostPlace + 1 → ⊥) → 0 ≡ cond (eqb w (mostPlace + 1)) t 0
   there-no n = rw (ne-eqb w (mostPlace + 1) n)
+
+-- Each question's walk, at a node
+module _ (Q : List ℕ) (last had : ℕ) {N : List ℕ} {at l : ℕ} (v : Visit (fits Q) (fitsAlong Q last had) N at l) where
+  pub within-past : {top : ℕ} → Tops Q top → top < l → tagsFrom (fits Q) N at ≡ []
+  within-past T h = stops v (λ x s g b. fits-past Q x last had s T (omega arith) b)
+
+  pub within-skips : {n m : ℕ} → n ≡ come Q l last had → n ≡ 0 → m ≡ next N at → tagsFrom (fits Q) N at ≡ tagsFrom (fits Q) N m
+  within-skips e z f = skips v (λ s. fits-over Q l last had s e z) f
+
+  pub within-enters : {n t : ℕ} → n ≡ come Q l last had → (n ≡ 0 → ⊥) → t ≡ tag N at → Enters (fits Q) (fitsAlong Q last had) (fitsAlong Q l n) N at l t
+  unfolding fitsAlong
+  within-enters e z f = record { seen = v; goes = λ s. fits-enters Q l last had s e z; own = f }
+
+pub within-root : (Q N : List ℕ) {t : ℕ} → t ≡ tag N 0 → t ≡ cond (fits Q []) (tag N 0) 0
+unfolding fitsAlong
+within-root Q N e = e
+
+module _ (Q : List ℕ) (want got : ℕ) {N : List ℕ} {at l : ℕ} (v : Visit (covers Q) (coversAlong Q want got) N at l) where
+  pub containing-past : want < l → tagsFrom (covers Q) N at ≡ []
+  containing-past h = stops v (λ x s g b. covers-past Q x want got (omega arith) s)
+
+  pub containing-enters : {w : Want} {t : ℕ} → l ≤ want → w ≡ wantAfter Q l want got → t ≡ cond (eqb (w .place) (mostPlace + 1)) (tag N at) 0 → Enters (covers Q) (coversAlong Q want got) (coversAlong Q (w .place) (w .got)) N at l t
+  unfolding coversAlong
+  containing-enters h e f = record { seen = v; goes = λ s. covers-enters Q l want got h e s; own = f }
+
+pub containing-root : (Q N : List ℕ) {w t : ℕ} → w ≡ nextWanted Q 0 → t ≡ cond (eqb w (mostPlace + 1)) (tag N 0) 0 → t ≡ cond (covers Q []) (tag N 0) 0
+unfolding coversAlong
+containing-root Q N e f = f ∙ ap (λ w. cond (eqb w (mostPlace + 1)) (tag N 0) 0) e
+
+pub short-root : (Q : List ℕ) {w : ℕ} → w ≡ nextWanted Q 0 → Short Q w 0
+short-root Q e = rw e (next-wanted Q 0 (omega arith) .some)
+
+-- what is asked below the root is what is asked of the whole
+pub covers-from : (Q : List ℕ) {N : List ℕ} {c w : ℕ} → w ≡ nextWanted Q 0 → Asks (covers Q) (covers Q) N c → Asks (covers Q) (coversAlong Q w 0) N c
+covers-from Q e a = rw e a

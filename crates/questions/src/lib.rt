@@ -78,14 +78,7 @@ fn come_again(bin: &[u16; 256], label: u16, last: u16, had: u16) -> u16
 }
 
 // The first kit within the bin on the chain that starts at a link, or below it: its tag, or 0.
-fn first_within(
-    nodes: &[u16],
-    bin: &[u16; 256],
-    top: u16,
-    at: usize,
-    last: u16,
-    had: u16,
-) -> u16
+fn first_within(nodes: &[u16], bin: &[u16; 256], top: u16, at: usize, last: u16, had: u16) -> u16
     requires { ⌜ Shape mostPlace (now nodes) ⌝ ∗ ⌜ Tops (now bin) top ⌝ ∗ ⌜ Asks (fits (now bin)) (fitsAlong (now bin) last had) (now nodes) at ⌝ }
     ensures { λ r. ⌜ r ≡ getD (tagsFrom (fits (now (bin .entry))) (now (nodes .entry)) at) 0 0 ⌝ }
 {
@@ -216,7 +209,10 @@ fn want_after(list: &[u16; 256], label: u16, place: u16, got: u16) -> Want
     ensures { λ r. ⌜ r ≡ wantAfter (now (list .entry)) label place got ⌝ }
 {
     if label < place {
-        return Want { place: place, got: got };
+        return Want {
+            place: place,
+            got: got,
+        };
     }
     let most = quantity(list, place);
     if got + 1 < most {
@@ -289,7 +285,15 @@ fn list_containing(
     }
     let then = want_after(list, label, want, got);
     let m = put_tag(out, n, tag_if_there(nodes, at, then.place));
-    let k = list_containing(nodes, list, out, m, child_at(nodes, at), then.place, then.got);
+    let k = list_containing(
+        nodes,
+        list,
+        out,
+        m,
+        child_at(nodes, at),
+        then.place,
+        then.got,
+    );
     list_containing(nodes, list, out, k, next_at(nodes, at), want, got)
 }
 

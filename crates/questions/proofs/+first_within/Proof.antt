@@ -1,3 +1,8 @@
+use Rattle.kits.specs.Along.{fitsAlong}
+use Rattle.nodes.specs.Walk.{rank}
+use Rattle.questions.specs.Walks.{fits}
+use Rattle.questions.proofs.Asked.{Visit, visit, asks-inside, inside, small, to-next, none-at, no-first, same-first, Enters, to-child, found-own, found-below, found-behind}
+use Rattle.questions.proofs.Labels.{within-past, within-skips, within-enters}
 use Prim.Native.Nat.{ℕ, _<_}
 use borrow.Fn.Kinds.{In}
 use borrow.Fn.PlainCycle.{Measures, is, falls, and}
@@ -13,7 +18,7 @@ use Rattle.questions.proofs.+first_within.{statement}
 use Rattle.questions.proofs.+first_within.Tie.{close}
 
 abbrev μ : Measures 2 kinds.ps ℕ
-μ κs a = ?
+μ κs a = rank (a .0 .now) (a .1 .1 .1 .0)
 
 abbrev At : ℕ → In 2 kinds.ps
 At t = and 2 kinds.ps (is 2 kinds.ps μ t) own.Pre
@@ -38,47 +43,53 @@ R t = (
 )
 
 module _ (t : ℕ) where
+  v : (c : lts.After-label-at (R t) (At t) own.Post) → Visit (fits (c .before .before .before .args .bin .now)) (fitsAlong (c .before .before .before .args .bin .now) (c .before .before .before .args .last) (c .before .before .before .args .had)) (c .before .before .before .args .nodes .now) (c .before .before .before .args .at) (c .label-at .result)
+  v c = visit (c .before .before .before .pre .1 .0) (c .before .before .before .pre .1 .1 .1) (c .before .if1 .left) (c .label-at .ensures)
+
+  e : (c : lts.After-tag-at (R t) (At t) own.Post) → Enters (fits (c .before .before .before .before .before .before .before .before .args .bin .now)) (fitsAlong (c .before .before .before .before .before .before .before .before .args .bin .now) (c .before .before .before .before .before .before .before .before .args .last) (c .before .before .before .before .before .before .before .before .args .had)) (fitsAlong (c .before .before .before .before .before .before .before .before .args .bin .now) (c .before .before .before .before .before .label-at .result) (c .before .before .before .come-again .result)) (c .before .before .before .before .before .before .before .before .args .nodes .now) (c .before .before .before .before .before .before .before .before .args .at) (c .before .before .before .before .before .label-at .result) (c .tag-at .result)
+  e c = within-enters (c .before .before .before .before .before .before .before .before .args .bin .now) (c .before .before .before .before .before .before .before .before .args .last) (c .before .before .before .before .before .before .before .before .args .had) (v (c .before .before .before .before .before)) (c .before .before .before .come-again .ensures) (c .before .if3 .left) (c .tag-at .ensures)
+
   returns : lts.Need-returns (R t) (At t) own.Post
-  returns c = ?
+  returns c = no-first (none-at (c .before .before .pre .1 .0) (fits (c .before .before .args .bin .now)) (c .if1 .taken))
 
   label-at-requires : lts.Need-label-at-requires (R t) (At t) own.Post
-  label-at-requires c κs = ?
+  label-at-requires c κs = asks-inside (c .before .before .pre .1 .1 .1) (c .if1 .left)
 
   returns-2 : lts.Need-returns-2 (R t) (At t) own.Post
-  returns-2 c = ?
+  returns-2 c = no-first (within-past (c .before .before .before .before .args .bin .now) (c .before .before .before .before .args .last) (c .before .before .before .before .args .had) (v (c .before)) (c .before .before .before .before .pre .1 .1 .0) (c .if2 .taken))
 
   come-again-requires : lts.Need-come-again-requires (R t) (At t) own.Post
-  come-again-requires c κs = ?
+  come-again-requires c κs = small (v (c .before))
 
   next-at-requires : lts.Need-next-at-requires (R t) (At t) own.Post
-  next-at-requires c κs = ?
+  next-at-requires c κs = inside (v (c .before .before))
 
   first-within-requires : lts.Need-first-within-requires (R t) (At t) own.Post
-  first-within-requires c κs = ?
+  first-within-requires c κs = let h = to-next (v (c .before .before .before .before)) (c .before .next-at .ensures .0) (c .before .before .before .before .before .before .before .pre .0) in (h .0, (c .before .before .before .before .before .before .before .pre .1 .0, (c .before .before .before .before .before .before .before .pre .1 .1 .0, h .1)))
 
   returns-3 : lts.Need-returns-3 (R t) (At t) own.Post
-  returns-3 c = ?
+  returns-3 c = same-first (within-skips (c .before .before .before .before .before .before .before .before .args .bin .now) (c .before .before .before .before .before .before .before .before .args .last) (c .before .before .before .before .before .before .before .before .args .had) (v (c .before .before .before .before .before)) (c .before .before .before .come-again .ensures) (c .before .if3 .taken) (c .before .before .next-at .ensures .0)) (c .first-within .ensures)
 
   tag-at-requires : lts.Need-tag-at-requires (R t) (At t) own.Post
-  tag-at-requires c κs = ?
+  tag-at-requires c κs = inside (v (c .before .before .before .before))
 
   returns-4 : lts.Need-returns-4 (R t) (At t) own.Post
-  returns-4 c = ?
+  returns-4 c = found-own (e (c .before)) (c .if4 .taken)
 
   child-at-requires : lts.Need-child-at-requires (R t) (At t) own.Post
-  child-at-requires c κs = ?
+  child-at-requires c κs = inside (v (c .before .before .before .before .before .before))
 
   first-within-requires-2 : lts.Need-first-within-requires-2 (R t) (At t) own.Post
-  first-within-requires-2 c κs = ?
+  first-within-requires-2 c κs = let h = to-child (e (c .before .before)) (c .child-at .ensures .0) (c .before .before .before .before .before .before .before .before .before .before .pre .0) in (h .0, (c .before .before .before .before .before .before .before .before .before .before .pre .1 .0, (c .before .before .before .before .before .before .before .before .before .before .pre .1 .1 .0, h .1)))
 
   returns-5 : lts.Need-returns-5 (R t) (At t) own.Post
-  returns-5 c = ?
+  returns-5 c = found-below (e (c .before .before .before .before)) (c .before .before .before .if4 .left) (c .before .before .child-at .ensures .0) (c .before .first-within2 .ensures) (c .if5 .taken)
 
   first-within-requires-3 : lts.Need-first-within-requires-3 (R t) (At t) own.Post
-  first-within-requires-3 c κs = ?
+  first-within-requires-3 c κs = let h = to-next (v (c .before .before .before .before .before .before .before .before .before)) (c .before .before .before .before .before .before .next-at .ensures .0) (c .before .before .before .before .before .before .before .before .before .before .before .before .pre .0) in (h .0, (c .before .before .before .before .before .before .before .before .before .before .before .before .pre .1 .0, (c .before .before .before .before .before .before .before .before .before .before .before .before .pre .1 .1 .0, h .1)))
 
   returns-6 : lts.Need-returns-6 (R t) (At t) own.Post
-  returns-6 c = ?
+  returns-6 c = found-behind (e (c .before .before .before .before .before)) (c .before .before .before .before .if4 .left) (c .before .before .before .child-at .ensures .0) (c .before .before .first-within2 .ensures) (c .before .if5 .left) (c .before .before .before .before .before .before .before .next-at .ensures .0) (c .first-within3 .ensures)
 
 pub +first-within-spec : {M : Type 1} → statement M
 +first-within-spec =

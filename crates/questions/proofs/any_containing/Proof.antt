@@ -1,41 +1,32 @@
+use Rattle.questions.specs.Questions.{isContaining}
+use Rattle.questions.specs.Walks.{covers}
+use Rattle.questions.proofs.Asked.{root-asks}
+use Rattle.questions.proofs.Labels.{containing-root, short-root, covers-from}
+use Rattle.questions.proofs.Answered.{containing-tags, any-root, any-below}
 use borrow.Author.Needs.{needs}
 use Rattle.questions.proofs.any_containing.Statement.{statement}
 use Rattle.questions.proofs.any_containing.Tie as tie
-use Rattle.questions.proofs.any_containing.Reads as reads
-use Rattle.questions.proofs.any_containing.Lts as lts
-use Rattle.kits.proofs.quantities_of.Reads as quantities-of-reads
-use Rattle.nodes.proofs.child_at.Reads as child-at-reads
-use Rattle.questions.proofs.first_containing.Reads as first-containing-reads
-use Rattle.questions.proofs.next_wanted.Reads as next-wanted-reads
-use Rattle.questions.proofs.tag_if_there.Reads as tag-if-there-reads
 
--- src/lib.rt:311:19
 quantities-of-requires : tie.Need-quantities-of-requires
 quantities-of-requires c κs = search needs
 
--- src/lib.rt:312:9
 next-wanted-requires : tie.Need-next-wanted-requires
 next-wanted-requires c κs = search needs
 
--- src/lib.rt:313:9
 tag-if-there-requires : tie.Need-tag-if-there-requires
 tag-if-there-requires c κs = search needs
 
--- src/lib.rt:315:9
 returns : tie.Need-returns
-returns c = ?
+returns c = any-root (c .before .before .before .before .before .before .before .args .list .now) isContaining (covers (c .before .before .before .before .quantities-of .result)) (c .before .before .before .before .before .before .before .pre .0 .shape) (containing-tags (c .before .before .before .before .before .before .before .args .list .now) (c .before .before .before .before .before .before .before .pre .0 .shape) (c .before .before .before .before .before .before .before .pre .1) (c .before .before .before .before .quantities-of .ensures)) (containing-root (c .before .before .before .before .quantities-of .result) (c .before .before .before .before .before .before .before .args .nodes .now) (c .before .before .next-wanted .ensures) (c .before .tag-if-there .ensures)) (c .if1 .taken)
 
--- src/lib.rt:317:39
 child-at-requires : tie.Need-child-at-requires
 child-at-requires c κs = search needs
 
--- src/lib.rt:317:5
 first-containing-requires : tie.Need-first-containing-requires
-first-containing-requires c κs = ?
+first-containing-requires c κs = (c .before .before .before .before .before .before .before .before .before .pre .0 .shape, (short-root (c .before .before .before .before .before .before .quantities-of .result) (c .before .before .before .before .next-wanted .ensures), covers-from (c .before .before .before .before .before .before .quantities-of .result) (c .before .before .before .before .next-wanted .ensures) (root-asks (c .before .before .before .before .before .before .before .before .before .pre .0 .shape) (covers (c .before .before .before .before .before .before .quantities-of .result)) (c .child-at .ensures .0))))
 
--- src/lib.rt:307:1
 returns-2 : tie.Need-returns-2
-returns-2 c = ?
+returns-2 c = any-below (c .before .before .before .before .before .before .before .before .before .before .args .list .now) isContaining (covers (c .before .before .before .before .before .before .before .quantities-of .result)) (c .before .before .before .before .before .before .before .before .before .before .pre .0 .shape) (containing-tags (c .before .before .before .before .before .before .before .before .before .before .args .list .now) (c .before .before .before .before .before .before .before .before .before .before .pre .0 .shape) (c .before .before .before .before .before .before .before .before .before .before .pre .1) (c .before .before .before .before .before .before .before .quantities-of .ensures)) (containing-root (c .before .before .before .before .before .before .before .quantities-of .result) (c .before .before .before .before .before .before .before .before .before .before .args .nodes .now) (c .before .before .before .before .before .next-wanted .ensures) (c .before .before .before .before .tag-if-there .ensures)) (c .before .before .before .if1 .left) (c .before .child-at .ensures .0) (c .first-containing .ensures)
 
 pub any-containing-spec : {M : Type 1} → statement M
 any-containing-spec =

@@ -2,31 +2,22 @@ use Rattle.questions.proofs.Labels.{come-more, come-over, come-none, co
 use borrow.Author.Needs.{needs}
 use Rattle.questions.proofs.come_again.Statement.{statement}
 use Rattle.questions.proofs.come_again.Tie as tie
-use Rattle.questions.proofs.come_again.Reads as reads
-use Rattle.questions.proofs.come_again.Lts as lts
-use Rattle.questions.proofs.quantity.Reads as quantity-reads
 
--- src/lib.rt:67:9
 quantity-requires : tie.Need-quantity-requires
 quantity-requires c κs = search needs
 
--- src/lib.rt:70:20
 add-result : tie.Need-add-result
 add-result c = search needs
 
--- src/lib.rt:70:13
 returns : tie.Need-returns
 returns c = come-more (c .before .before .before .args .bin .now) (c .before .before .before .args .label) (c .before .before .before .args .last) (c .before .before .before .args .had) (c .before .before .quantity .ensures) (c .before .if1 .taken) (c .if2 .taken)
 
--- src/lib.rt:72:9
 returns-2 : tie.Need-returns-2
 returns-2 c = come-over (c .before .before .before .args .bin .now) (c .before .before .before .args .label) (c .before .before .before .args .last) (c .before .before .before .args .had) (c .before .before .quantity .ensures) (c .before .if1 .taken) (c .if2 .left)
 
--- src/lib.rt:75:9
 returns-3 : tie.Need-returns-3
 returns-3 c = come-none (c .before .before .before .args .bin .now) (c .before .before .before .args .label) (c .before .before .before .args .last) (c .before .before .before .args .had) (c .before .before .quantity .ensures) (c .before .if1 .left) (c .if3 .taken)
 
--- src/lib.rt:63:1
 returns-4 : tie.Need-returns-4
 returns-4 c = come-new (c .before .before .before .args .bin .now) (c .before .before .before .args .label) (c .before .before .before .args .last) (c .before .before .before .args .had) (c .before .before .quantity .ensures) (c .before .if1 .left) (c .if3 .left)
 

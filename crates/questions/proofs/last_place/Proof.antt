@@ -1,4 +1,4 @@
-use mathlib.Core.Path.{_≡_, ap, sym, _∙_}
+use mathlib.Core.Path.{_≡_, sym, _∙_}
 use native.Mathlib.Omega.{arith}
 use Prim.Native.Nat.{ℕ, _≤_, _<_}
 use lib.ListN.{getD}
@@ -6,9 +6,6 @@ use Rattle.kits.specs.Kits.{mostPlace}
 use Rattle.questions.proofs.Labels.{none-from}
 use Rattle.questions.proofs.last_place.Statement.{statement}
 use Rattle.questions.proofs.last_place.Tie as tie
-use Rattle.questions.proofs.last_place.Reads as reads
-use Rattle.questions.proofs.last_place.Lts as lts
-use Rattle.questions.proofs.quantity.Reads as quantity-reads
 
 abbrev Inv-loop : tie.InvT-loop
 Inv-loop bin place₀ place = (place ≤ mostPlace) × ((p : ℕ) → place < p → p ≤ mostPlace → getD bin p 0 ≡ 0)
@@ -16,31 +13,24 @@ Inv-loop bin place₀ place = (place ≤ mostPlace) × ((p : ℕ) → place < p 
 abbrev μ-loop : tie.MeasureT-loop
 μ-loop bin place₀ place = place
 
--- src/lib.rt:53:5
 loop-holds : tie.Need-loop-holds Inv-loop μ-loop
 loop-holds c = (omega arith, λ p h g. absurd (omega arith))
 
--- src/lib.rt:54:12
 quantity-requires : tie.Need-quantity-requires Inv-loop μ-loop
 quantity-requires c κs = c .before .loop .inv .0
 
--- src/lib.rt:55:13
 returns : tie.Need-returns Inv-loop μ-loop
 returns c = record { past = c .before .before .before .loop .inv .1; some = λ h. omega (arith, c .if1 .taken, c .before .quantity .ensures) }
 
--- src/lib.rt:57:9
 sub-place : tie.Need-sub-place Inv-loop μ-loop
 sub-place c = omega arith
 
--- src/lib.rt:53:5
 loop-less : tie.Need-loop-less Inv-loop μ-loop
 loop-less c = omega arith
 
--- src/lib.rt:53:5
 loop-again : tie.Need-loop-again Inv-loop μ-loop
 loop-again c = (omega (arith, c .before .before .before .loop .inv .0), none-from (c .before .before .before .before .args .bin .now) (c .before .before .before .loop .place) (c .before .before .before .loop .inv .1) (sym (c .before .quantity .ensures) ∙ c .if1 .left))
 
--- src/lib.rt:49:1
 returns-2 : tie.Need-returns-2 Inv-loop μ-loop
 returns-2 c = record { past = λ p h g. c .before .loop .inv .1 p (omega (arith, c .loop-test .left)) g; some = λ h. absurd (omega arith) }
 

@@ -6,9 +6,6 @@ use Rattle.kits.specs.Along.{nextWanted}
 use Rattle.questions.proofs.Labels.{next-here, next-on, next-end}
 use Rattle.questions.proofs.next_wanted.Statement.{statement}
 use Rattle.questions.proofs.next_wanted.Tie as tie
-use Rattle.questions.proofs.next_wanted.Reads as reads
-use Rattle.questions.proofs.next_wanted.Lts as lts
-use Rattle.questions.proofs.quantity.Reads as quantity-reads
 
 abbrev Inv-loop : tie.InvT-loop
 Inv-loop list from place₀ place = (place ≤ mostPlace + 1) × (nextWanted list place ≡ nextWanted list from)
@@ -16,31 +13,24 @@ Inv-loop list from place₀ place = (place ≤ mostPlace + 1) × (nextWanted lis
 abbrev μ-loop : tie.MeasureT-loop
 μ-loop list from place₀ place = mostPlace + 1 - place
 
--- src/lib.rt:204:5
 loop-holds : tie.Need-loop-holds Inv-loop μ-loop
 loop-holds c = (c .pre, refl)
 
--- src/lib.rt:205:12
 quantity-requires : tie.Need-quantity-requires Inv-loop μ-loop
 quantity-requires c κs = omega (arith, c .loop-test .taken)
 
--- src/lib.rt:206:13
 returns : tie.Need-returns Inv-loop μ-loop
 returns c = sym (next-here (c .before .before .before .before .args .list .now) (c .before .before .before .loop .place) (c .before .quantity .ensures) (c .before .before .loop-test .taken) (c .if1 .taken)) ∙ c .before .before .before .loop .inv .1
 
--- src/lib.rt:208:9
 add-place : tie.Need-add-place Inv-loop μ-loop
 add-place c = omega (arith, c .before .before .loop-test .taken)
 
--- src/lib.rt:204:5
 loop-less : tie.Need-loop-less Inv-loop μ-loop
 loop-less c = omega (arith, c .before .before .loop-test .taken)
 
--- src/lib.rt:204:5
 loop-again : tie.Need-loop-again Inv-loop μ-loop
 loop-again c = (omega (arith, c .before .before .loop-test .taken), sym (next-on (c .before .before .before .before .args .list .now) (c .before .before .before .loop .place) (c .before .quantity .ensures) (c .before .before .loop-test .taken) (c .if1 .left)) ∙ c .before .before .before .loop .inv .1)
 
--- src/lib.rt:199:1
 returns-2 : tie.Need-returns-2 Inv-loop μ-loop
 returns-2 c = sym (next-end (c .before .before .args .list .now) (c .before .loop .place) (c .loop-test .left) (c .before .loop .inv .0)) ∙ c .before .loop .inv .1
 

@@ -1,41 +1,32 @@
+use mathlib.Core.Path.{refl}
+use native.Mathlib.Omega.{arith}
+use Rattle.questions.specs.Walks.{covers}
+use Rattle.questions.proofs.Asked.{root-asks, root-room, root-set}
+use Rattle.questions.proofs.Labels.{containing-root, short-root, covers-from}
 use borrow.Author.Needs.{needs}
 use Rattle.questions.proofs.set_containing.Statement.{statement}
 use Rattle.questions.proofs.set_containing.Tie as tie
-use Rattle.questions.proofs.set_containing.Reads as reads
-use Rattle.questions.proofs.set_containing.Lts as lts
-use Rattle.nodes.proofs.child_at.Reads as child-at-reads
-use Rattle.questions.proofs.list_containing.Reads as list-containing-reads
-use Rattle.questions.proofs.next_wanted.Reads as next-wanted-reads
-use Rattle.questions.proofs.put_tag.Reads as put-tag-reads
-use Rattle.questions.proofs.tag_if_there.Reads as tag-if-there-reads
 
--- src/lib.rt:301:9
 next-wanted-requires : tie.Need-next-wanted-requires
 next-wanted-requires c κs = search needs
 
--- src/lib.rt:302:29
 tag-if-there-requires : tie.Need-tag-if-there-requires
 tag-if-there-requires c κs = search needs
 
--- src/lib.rt:302:9
 put-tag-requires : tie.Need-put-tag-requires
-put-tag-requires c κs = ?
+put-tag-requires c κs = omega (arith, root-room (c .before .before .before .before .before .pre) (covers (c .before .before .before .before .before .args .list .now)) (containing-root (c .before .before .before .before .before .args .list .now) (c .before .before .before .before .before .args .nodes .now) (c .before .before .next-wanted .ensures) (c .tag-if-there .ensures)) refl)
 
--- src/lib.rt:303:42
 child-at-requires : tie.Need-child-at-requires
 child-at-requires c κs = search needs
 
--- src/lib.rt:303:5
 list-containing-requires : tie.Need-list-containing-requires
-list-containing-requires c κs = ?
+list-containing-requires c κs = (c .before .before .before .before .before .before .before .before .before .before .pre, (short-root (c .before .before .before .before .before .before .before .before .before .before .args .list .now) (c .before .before .before .before .before .before .before .next-wanted .ensures), (covers-from (c .before .before .before .before .before .before .before .before .before .before .args .list .now) (c .before .before .before .before .before .before .before .next-wanted .ensures) (root-asks (c .before .before .before .before .before .before .before .before .before .before .pre) (covers (c .before .before .before .before .before .before .before .before .before .before .args .list .now)) (c .child-at .ensures .0)), omega (arith, c .before .before .before .before .put-tag .ensures .ends, root-room (c .before .before .before .before .before .before .before .before .before .before .pre) (covers (c .before .before .before .before .before .before .before .before .before .before .args .list .now)) (containing-root (c .before .before .before .before .before .before .before .before .before .before .args .list .now) (c .before .before .before .before .before .before .before .before .before .before .args .nodes .now) (c .before .before .before .before .before .before .before .next-wanted .ensures) (c .before .before .before .before .before .tag-if-there .ensures)) (c .child-at .ensures .0)))))
 
--- src/lib.rt:297:1
 same-length : tie.Need-same-length
 same-length c = search needs
 
--- src/lib.rt:297:1
 returns : tie.Need-returns
-returns c = ?
+returns c = root-set (c .before .before .before .before .before .before .before .before .before .before .before .before .before .pre) (covers (c .before .before .before .before .before .before .before .before .before .before .before .before .before .args .list .now)) (containing-root (c .before .before .before .before .before .before .before .before .before .before .before .before .before .args .list .now) (c .before .before .before .before .before .before .before .before .before .before .before .before .before .args .nodes .now) (c .before .before .before .before .before .before .before .before .before .before .next-wanted .ensures) (c .before .before .before .before .before .before .before .before .tag-if-there .ensures)) (c .before .before .before .child-at .ensures .0) (c .before .before .before .before .before .before .before .put-tag .ensures) (c .before .before .list-containing .ensures)
 
 pub set-containing-spec : {M : Type 1} → statement M
 set-containing-spec =

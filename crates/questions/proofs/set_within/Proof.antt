@@ -1,41 +1,32 @@
+use mathlib.Core.Path.{refl}
+use native.Mathlib.Omega.{arith}
+use Rattle.questions.specs.Walks.{fits}
+use Rattle.questions.proofs.Asked.{root-asks, root-room, root-set}
+use Rattle.questions.proofs.Labels.{within-root}
 use borrow.Author.Needs.{needs}
 use Rattle.questions.proofs.set_within.Statement.{statement}
 use Rattle.questions.proofs.set_within.Tie as tie
-use Rattle.questions.proofs.set_within.Reads as reads
-use Rattle.questions.proofs.set_within.Lts as lts
-use Rattle.nodes.proofs.child_at.Reads as child-at-reads
-use Rattle.nodes.proofs.tag_at.Reads as tag-at-reads
-use Rattle.questions.proofs.last_place.Reads as last-place-reads
-use Rattle.questions.proofs.list_within.Reads as list-within-reads
-use Rattle.questions.proofs.put_tag.Reads as put-tag-reads
 
--- src/lib.rt:151:29
 tag-at-requires : tie.Need-tag-at-requires
 tag-at-requires c κs = search needs
 
--- src/lib.rt:151:9
 put-tag-requires : tie.Need-put-tag-requires
-put-tag-requires c κs = ?
+put-tag-requires c κs = omega (arith, root-room (c .before .before .before .before .pre) (fits (c .before .before .before .before .args .bin .now)) (within-root (c .before .before .before .before .args .bin .now) (c .before .before .before .before .args .nodes .now) (c .tag-at .ensures)) refl)
 
--- src/lib.rt:152:9
 last-place-requires : tie.Need-last-place-requires
 last-place-requires c κs = search needs
 
--- src/lib.rt:153:42
 child-at-requires : tie.Need-child-at-requires
 child-at-requires c κs = search needs
 
--- src/lib.rt:153:5
 list-within-requires : tie.Need-list-within-requires
-list-within-requires c κs = ?
+list-within-requires c κs = (c .before .before .before .before .before .before .before .before .before .before .pre, (c .before .before .last-place .ensures, (root-asks (c .before .before .before .before .before .before .before .before .before .before .pre) (fits (c .before .before .before .before .before .before .before .before .before .before .args .bin .now)) (c .child-at .ensures .0), omega (arith, c .before .before .before .before .before .put-tag .ensures .ends, root-room (c .before .before .before .before .before .before .before .before .before .before .pre) (fits (c .before .before .before .before .before .before .before .before .before .before .args .bin .now)) (within-root (c .before .before .before .before .before .before .before .before .before .before .args .bin .now) (c .before .before .before .before .before .before .before .before .before .before .args .nodes .now) (c .before .before .before .before .before .before .tag-at .ensures)) (c .child-at .ensures .0)))))
 
--- src/lib.rt:147:1
 same-length : tie.Need-same-length
 same-length c = search needs
 
--- src/lib.rt:147:1
 returns : tie.Need-returns
-returns c = ?
+returns c = root-set (c .before .before .before .before .before .before .before .before .before .before .before .before .before .pre) (fits (c .before .before .before .before .before .before .before .before .before .before .before .before .before .args .bin .now)) (within-root (c .before .before .before .before .before .before .before .before .before .before .before .before .before .args .bin .now) (c .before .before .before .before .before .before .before .before .before .before .before .before .before .args .nodes .now) (c .before .before .before .before .before .before .before .before .before .tag-at .ensures)) (c .before .before .before .child-at .ensures .0) (c .before .before .before .before .before .before .before .before .put-tag .ensures) (c .before .before .list-within .ensures)
 
 pub set-within-spec : {M : Type 1} → statement M
 set-within-spec =

@@ -3,19 +3,13 @@ use Rattle.nodes.specs.Nodes.{tag}
 use borrow.Author.Needs.{needs}
 use Rattle.questions.proofs.tag_if_there.Statement.{statement}
 use Rattle.questions.proofs.tag_if_there.Tie as tie
-use Rattle.questions.proofs.tag_if_there.Reads as reads
-use Rattle.questions.proofs.tag_if_there.Lts as lts
-use Rattle.nodes.proofs.tag_at.Reads as tag-at-reads
 
--- src/lib.rt:240:9
 tag-at-requires : tie.Need-tag-at-requires
 tag-at-requires c κs = search needs
 
--- src/lib.rt:240:9
 returns : tie.Need-returns
 returns c = there-yes (c .before .before .before .args .want) (tag (c .before .before .before .args .nodes .now) (c .before .before .before .args .at)) (c .before .if1 .taken) (c .tag-at .ensures)
 
--- src/lib.rt:235:1
 returns-2 : tie.Need-returns-2
 returns-2 c = there-no (c .before .before .args .want) (tag (c .before .before .args .nodes .now) (c .before .before .args .at)) (c .if1 .left)
 
