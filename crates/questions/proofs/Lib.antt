@@ -2,3 +2,4 @@
 pub mod Asked
 pub mod Labels
 pub mod Answered
+pub mod Meaning
