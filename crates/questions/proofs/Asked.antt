@@ -1,12 +1,10 @@
--- The walk of a question, whichever it is: one step of it, where it may stop, the first tag, and the tags set down.
+-- The walk of a question, whichever it is: one step of it, where it may stop, its first tag and all its tags.
 use mathlib.Core.Path.{_≡_, refl, sym, ap, ap₂, _∙_}
 use mathlib.Core.Bool.{Bool, true, false, cond, not, _&&_}
 use mathlib.Core.List.{List, [], _∷_, _++_, map, append-assoc, append-nil}
 use Prim.Native.Nat.{ℕ, zero, suc, _+_, _≤_, _<_}
-use native.Mathlib.Nat.{add-zero}
 use native.Mathlib.Omega.{arith}
-use lib.ListN.{length, getD, set, length-append, length-map}
-use lib.Seq.{sets}
+use lib.ListN.{length, getD, length-append, length-map}
 use lib.Dec.{eqb}
 use borrow.Author.Tests.{eq-eqb, ne-eqb}
 use Rattle.ground.specs.Lists.{keep, from}
@@ -14,13 +12,14 @@ use Rattle.ground.proofs.Laws.{map-append, and-right, by-cond, length-from}
 use Rattle.kits.specs.Kits.{mostPlace}
 use Rattle.nodes.specs.Nodes.{mostNodes, parent, child, next, label, tag, tagged, size, nodesOf, rowOf}
 use Rattle.nodes.specs.Sound.{Used, Live, Shape}
-use Rattle.nodes.specs.Walk.{rank, walk, walkAll}
+use Rattle.nodes.specs.Walk.{walk, walkAll}
 use Rattle.nodes.proofs.Lists.{never}
 use Rattle.nodes.proofs.Sorted.{no-longer, mem-from}
 use Rattle.nodes.proofs.Rows.{climb, used-pos, live-inside, row-root, row-step}
-use Rattle.nodes.proofs.Walk.{root-inside, root-child, child-live, child-less, next-less, walk-none, walk-some, ind}
+use Rattle.nodes.proofs.Walk.{root-inside, root-child, child-live, walk-none, walk-some, ind}
 use Rattle.nodes.proofs.Order.{walk-once, walk-only}
 use Rattle.questions.specs.Walks.{answers, tagsFrom, tagsIn, someTag, Asks, Wrote}
+use Rattle.questions.proofs.Written.{some-none, some-one, wrote-on}
 
 pub keep-append : {A : Type 0} (p : A → Bool) (xs ys : List A) → keep p (xs ++ ys) ≡ keep p xs ++ keep p ys
 unfolding keep
@@ -35,17 +34,6 @@ keep-few : {A : Type 0} (p : A → Bool) (xs : List A) → length (keep p xs) �
 unfolding keep
 keep-few p [] = omega arith
 keep-few p (x ∷ xs) = by-cond (λ l. length l ≤ suc (length xs)) (p x) (x ∷ keep p xs) (keep p xs) (λ e. omega (arith, keep-few p xs)) (λ e. omega (arith, keep-few p xs))
-
--- a tag that is 0, and one that is not
-pub some-none : (t : ℕ) → t ≡ 0 → someTag t ≡ []
-unfolding someTag
-some-none zero e = refl
-some-none (suc t) e = absurd (omega arith)
-
-pub some-one : (t : ℕ) → (t ≡ 0 → ⊥) → someTag t ≡ t ∷ []
-unfolding someTag
-some-one zero n = absurd (n refl)
-some-one (suc t) n = refl
 
 -- the first of a tag, what is below, and what is behind
 first-own : (t : ℕ) (xs : List ℕ) → (t ≡ 0 → ⊥) → getD (someTag t ++ xs) 0 0 ≡ t
@@ -62,43 +50,12 @@ module _ (t : ℕ) (xs ys : List ℕ) where
   first-behind : t ≡ 0 → xs ≡ [] → getD (someTag t ++ (xs ++ ys)) 0 0 ≡ getD ys 0 0
   first-behind e f = rw (some-none t e, f)
 
--- Tags set down one behind the other
-pub sets-append : (o : List ℕ) (n : ℕ) (xs ys : List ℕ) → sets o n (xs ++ ys) ≡ sets (sets o n xs) (n + length xs) ys
-sets-append o n [] ys = rw add-zero
-sets-append o n (x ∷ xs) ys =
-    let e : suc n + length xs ≡ n + suc (length xs) = omega arith in
-    rw (← e) (sets-append (set o n x) (suc n) xs ys)
-
 -- where there is no tag, none is first
 pub no-first : {ts : List ℕ} → ts ≡ [] → 0 ≡ getD ts 0 0
 no-first e = rw e
 
 pub same-first : {xs ys : List ℕ} {r : ℕ} → xs ≡ ys → r ≡ getD ys 0 0 → r ≡ getD xs 0 0
 same-first e f = f ∙ ap (λ l. getD l 0 0) (sym e)
-
-pub wrote-same : {o o′ : List ℕ} {n r : ℕ} {xs ys : List ℕ} → xs ≡ ys → Wrote o o′ n r ys → Wrote o o′ n r xs
-wrote-same e w = rw e w
-
-pub wrote-none : (o : List ℕ) (n : ℕ) (ts : List ℕ) → ts ≡ [] → Wrote o o n n ts
-wrote-none o n ts e = rw e (record { ends = omega arith; is = refl })
-
-set-past : (o : List ℕ) (n t : ℕ) → length o ≤ n → set o n t ≡ o
-set-past [] n t h = refl
-set-past (x ∷ o) zero t h = absurd (omega arith)
-set-past (x ∷ o) (suc n) t h = ap (_∷_ x) (set-past o n t (omega arith))
-
--- one tag, where there is room, and where there is none
-pub wrote-one : (o : List ℕ) (n t : ℕ) → (t ≡ 0 → ⊥) → Wrote o (set o n t) n (n + 1) (someTag t)
-wrote-one o n t h = rw (some-one t h) (record { ends = omega arith; is = refl })
-
-pub wrote-past : (o : List ℕ) (n t : ℕ) → (t ≡ 0 → ⊥) → length o ≤ n → Wrote o o n (n + 1) (someTag t)
-wrote-past o n t h g = rw (some-one t h) (record { ends = omega arith; is = sym (set-past o n t g) })
-
-pub wrote-on : {o o′ o″ : List ℕ} {n k r : ℕ} {xs ys : List ℕ} → Wrote o o′ n k xs → Wrote o′ o″ k r ys → Wrote o o″ n r (xs ++ ys)
-wrote-on {o} {o′} {o″} {n} {k} {r} {xs} {ys} a b = record {
-  ends = omega (arith, a .ends, b .ends, length-append xs ys);
-  is = b .is ∙ ap (λ l. sets l k ys) (a .is) ∙ ap (λ j. sets (sets o n xs) j ys) (a .ends) ∙ sym (sets-append o n xs ys);
-}
 
 -- a node's tag, where the test b says yes
 kept-tag : (N : List ℕ) (i : ℕ) (b : Bool) (t : ℕ) → t ≡ tag N i → map (tag N) (cond (b && not (eqb t 0)) (i ∷ []) []) ≡ someTag (cond b t 0)
@@ -196,7 +153,7 @@ pub asks-inside : {test rest : List ℕ → Bool} {N : List ℕ} {at : ℕ} → 
 asks-inside A n = A .live (omega arith) .inside
 
 module _ {test rest : List ℕ → Bool} {N : List ℕ} {at l : ℕ} (v : Visit test rest N at l) where
-  here : Used N at
+  pub here : Used N at
   here = v .asks .live (v .pos)
 
   pub inside : at < size N
@@ -215,14 +172,11 @@ module _ {test rest : List ℕ → Bool} {N : List ℕ} {at l : ℕ} (v : Visit 
       ap test (ap (λ r. r ++ s) (row-step (climb (v .shape)) at here) ∙ append-assoc (rowOf N (parent N at)) (label N at ∷ []) s)
       ∙ v .asks .left (v .pos) (label N at ∷ s) ∙ ap (λ x. rest (x ∷ s)) (sym (v .l-is))
 
-  next-asks : Asks test rest N (next N at)
+  pub next-asks : Asks test rest N (next N at)
   next-asks = record {
     live = v .shape .good at here .sibling;
     left = λ g s. ap (λ i. test (rowOf N i ++ s)) (v .shape .good at here .same g) ∙ v .asks .left (v .pos) s;
   }
-
-  pub to-next : {k t : ℕ} → k ≡ next N at → rank N at ≡ t → (rank N k < t) × Asks test rest N k
-  to-next e r = rw e (omega (arith, r, next-less (v .shape) at here), next-asks)
 
   -- no row goes on with this label: what is left is behind
   pub skips : {m : ℕ} → ((s : List ℕ) → rest (l ∷ s) ≡ false) → m ≡ next N at → tagsFrom test N at ≡ tagsFrom test N m
@@ -244,14 +198,11 @@ module _ {test rest on : List ℕ → Bool} {N : List ℕ} {at l t : ℕ} (E : E
   passes : (s : List ℕ) → test (rowOf N at ++ s) ≡ on s
   passes s = on-with (E .seen) s ∙ E .goes s
 
-  child-asks : Asks test on N (child N at)
+  pub child-asks : Asks test on N (child N at)
   child-asks = record {
     live = child-live (E .seen .shape) at (inside (E .seen));
     left = λ g s. ap (λ i. test (rowOf N i ++ s)) (E .seen .shape .head at (inside (E .seen)) .back g) ∙ passes s;
   }
-
-  pub to-child : {k r : ℕ} → k ≡ child N at → rank N at ≡ r → (rank N k < r) × Asks test on N k
-  to-child e r = rw e (omega (arith, r, child-less (E .seen .shape) at (here (E .seen))), child-asks)
 
   parts-are : {k m : ℕ} → k ≡ child N at → m ≡ next N at → tagsFrom test N at ≡ someTag t ++ (tagsFrom test N k ++ tagsFrom test N m)
   parts-are e g =

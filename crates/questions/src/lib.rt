@@ -7,11 +7,11 @@ ghost use lib.Dec.{ltb, eqb};
 ghost use lib.ListN.{length, getD};
 ghost use Rattle.ground.specs.Calls.{Promise, setDown};
 ghost use Rattle.kits.specs.Kits.{mostPlace, goodList};
-ghost use Rattle.kits.specs.Along.{fitsAlong, nextWanted, coversAlong};
+ghost use Rattle.kits.specs.Along.{nextWanted};
 ghost use Rattle.nodes.specs.Nodes.{mostNodes, tag, size};
 ghost use Rattle.nodes.specs.Sound.{Shape, Sound};
 ghost use Rattle.questions.specs.Questions.{isWithin, isContaining, anyOf, allOf, listedReply};
-ghost use Rattle.questions.specs.Walks.{fits, covers, tagsFrom, tagsIn, someTag, Asks, Short, Tops, Wrote, come, wantAfter};
+ghost use Rattle.questions.specs.Walks.{fits, covers, tagsFrom, tagsIn, someTag, Tops, Short, AtBin, AtList, Wrote, come, wantAfter};
 use ground::wide16;
 use kits::PLACES;
 use kits::quantities_of;
@@ -79,7 +79,7 @@ fn come_again(bin: &[u16; 256], label: u16, last: u16, had: u16) -> u16
 
 // The first kit within the bin on the chain that starts at a link, or below it: its tag, or 0.
 fn first_within(nodes: &[u16], bin: &[u16; 256], top: u16, at: usize, last: u16, had: u16) -> u16
-    requires { ⌜ Shape mostPlace (now nodes) ⌝ ∗ ⌜ Tops (now bin) top ⌝ ∗ ⌜ Asks (fits (now bin)) (fitsAlong (now bin) last had) (now nodes) at ⌝ }
+    requires { ⌜ AtBin (now nodes) (now bin) top at last had ⌝ }
     ensures { λ r. ⌜ r ≡ getD (tagsFrom (fits (now (bin .entry))) (now (nodes .entry)) at) 0 0 ⌝ }
 {
     if at == 0 {
@@ -116,7 +116,7 @@ fn list_within(
     last: u16,
     had: u16,
 ) -> usize
-    requires { ⌜ Shape mostPlace (now nodes) ⌝ ∗ ⌜ Tops (now bin) top ⌝ ∗ ⌜ Asks (fits (now bin)) (fitsAlong (now bin) last had) (now nodes) at ⌝ ∗ ⌜ n + length (tagsFrom (fits (now bin)) (now nodes) at) ≤ mostNodes ⌝ }
+    requires { ⌜ AtBin (now nodes) (now bin) top at last had ⌝ ∗ ⌜ n + length (tagsFrom (fits (now bin)) (now nodes) at) ≤ mostNodes ⌝ }
     ensures { λ r. ⌜ Wrote (now (out .entry)) (now (out .exit)) n r (tagsFrom (fits (now (bin .entry))) (now (nodes .entry)) at) ⌝ }
 {
     if at == 0 {
@@ -241,7 +241,7 @@ fn tag_if_there(nodes: &[u16], at: usize, want: u16) -> u16
 // The first kit that contains the list on the chain that starts at a link, or below it: its tag, or 0.
 // "The wanted child and all smaller labels must be tried."
 fn first_containing(nodes: &[u16], list: &[u16; 256], at: usize, want: u16, got: u16) -> u16
-    requires { ⌜ Shape mostPlace (now nodes) ⌝ ∗ ⌜ Short (now list) want got ⌝ ∗ ⌜ Asks (covers (now list)) (coversAlong (now list) want got) (now nodes) at ⌝ }
+    requires { ⌜ AtList (now nodes) (now list) at want got ⌝ }
     ensures { λ r. ⌜ r ≡ getD (tagsFrom (covers (now (list .entry))) (now (nodes .entry)) at) 0 0 ⌝ }
 {
     if at == 0 {
@@ -270,20 +270,20 @@ fn list_containing(
     out: &mut [u16],
     n: usize,
     at: usize,
-    want: u16,
+    wanted: u16,
     got: u16,
 ) -> usize
-    requires { ⌜ Shape mostPlace (now nodes) ⌝ ∗ ⌜ Short (now list) want got ⌝ ∗ ⌜ Asks (covers (now list)) (coversAlong (now list) want got) (now nodes) at ⌝ ∗ ⌜ n + length (tagsFrom (covers (now list)) (now nodes) at) ≤ mostNodes ⌝ }
+    requires { ⌜ AtList (now nodes) (now list) at wanted got ⌝ ∗ ⌜ n + length (tagsFrom (covers (now list)) (now nodes) at) ≤ mostNodes ⌝ }
     ensures { λ r. ⌜ Wrote (now (out .entry)) (now (out .exit)) n r (tagsFrom (covers (now (list .entry))) (now (nodes .entry)) at) ⌝ }
 {
     if at == 0 {
         return n;
     }
     let label = label_at(nodes, at);
-    if want < label {
+    if wanted < label {
         return n;
     }
-    let then = want_after(list, label, want, got);
+    let then = want_after(list, label, wanted, got);
     let m = put_tag(out, n, tag_if_there(nodes, at, then.place));
     let k = list_containing(
         nodes,
@@ -294,7 +294,7 @@ fn list_containing(
         then.place,
         then.got,
     );
-    list_containing(nodes, list, out, k, next_at(nodes, at), want, got)
+    list_containing(nodes, list, out, k, next_at(nodes, at), wanted, got)
 }
 
 // Sets down the tags of all kits that contain the list, as far as there is room; returns how many they are.
@@ -327,10 +327,10 @@ pub fn all_containing(nodes: &[u16], list: &[u16], out: &mut [u16]) -> Listed
     ensures { λ r. ⌜ Promise (setDown [] (allOf isContaining (now (list .entry)) (now (nodes .entry))) (now (out .entry))) (now (out .entry)) (listedReply r) (now (out .exit)) ⌝ }
 {
     let amounts = quantities_of(list);
-    let need = set_containing(nodes, &amounts, &mut out[0..0]);
-    if out.len() < need {
-        return Listed::NoRoom(need);
+    let count = set_containing(nodes, &amounts, &mut out[0..0]);
+    if out.len() < count {
+        return Listed::NoRoom(count);
     }
     set_containing(nodes, &amounts, out);
-    Listed::Done(need)
+    Listed::Done(count)
 }

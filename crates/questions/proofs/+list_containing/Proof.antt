@@ -1,10 +1,11 @@
+-- As `first_containing`; what is set down is a node's own tag, then those below it, then those behind it.
 use mathlib.Core.Path.{refl, _∙_}
 use native.Mathlib.Omega.{arith}
-use Rattle.kits.specs.Along.{coversAlong}
 use Rattle.nodes.specs.Walk.{rank}
 use Rattle.questions.specs.Walks.{covers, tagsFrom}
-use Rattle.questions.proofs.Asked.{Visit, visit, asks-inside, inside, small, to-next, none-at, wrote-none, Enters, to-child, room, set-down}
-use Rattle.questions.proofs.Labels.{containing-past, containing-enters, short-after}
+use Rattle.questions.proofs.Written.{wrote-none}
+use Rattle.questions.proofs.Asked.{asks-inside, none-at, room, set-down}
+use Rattle.questions.proofs.Containing.{Seen, in-table, a-place, past, to-next, Entered, entered, to-child}
 use Prim.Native.Nat.{ℕ, _<_}
 use borrow.Fn.Kinds.{In}
 use borrow.Fn.PlainCycle.{Measures, is, falls, and}
@@ -48,47 +49,47 @@ R t = (
 )
 
 module _ (t : ℕ) where
-  v : (c : lts.After-label-at (R t) (At t) own.Post) → Visit (covers (c .before .before .before .before .args .list .now)) (coversAlong (c .before .before .before .before .args .list .now) (c .before .before .before .before .args .want) (c .before .before .before .before .args .got)) (c .before .before .before .before .args .nodes .now) (c .before .before .before .before .args .at) (c .label-at .result)
-  v c = visit (c .before .before .before .before .pre .1 .0) (c .before .before .before .before .pre .1 .1 .1 .0) (c .before .if1 .left) (c .label-at .ensures)
+  v : (c : lts.After-label-at (R t) (At t) own.Post) → Seen (c .before .before .before .before .args .nodes .now) (c .before .before .before .before .args .list .now) (c .before .before .before .before .args .at) (c .before .before .before .before .args .wanted) (c .before .before .before .before .args .got) (c .label-at .result) t
+  v c = record { knows = c .before .before .before .before .pre .1 .0; measured = c .before .before .before .before .pre .0; node = c .before .if1 .left; l-is = c .label-at .ensures }
 
-  e : (c : lts.After-tag-if-there (R t) (At t) own.Post) → Enters (covers (c .before .before .before .before .before .before .before .before .args .list .now)) (coversAlong (c .before .before .before .before .before .before .before .before .args .list .now) (c .before .before .before .before .before .before .before .before .args .want) (c .before .before .before .before .before .before .before .before .args .got)) (coversAlong (c .before .before .before .before .before .before .before .before .args .list .now) (c .before .before .want-after .result .place) (c .before .before .want-after .result .got)) (c .before .before .before .before .before .before .before .before .args .nodes .now) (c .before .before .before .before .before .before .before .before .args .at) (c .before .before .before .before .label-at .result) (c .tag-if-there .result)
-  e c = containing-enters (c .before .before .before .before .before .before .before .before .args .list .now) (c .before .before .before .before .before .before .before .before .args .want) (c .before .before .before .before .before .before .before .before .args .got) (v (c .before .before .before .before)) (c .before .before .before .if2 .left) (c .before .before .want-after .ensures) (c .tag-if-there .ensures)
+  e : (c : lts.After-tag-if-there (R t) (At t) own.Post) → Entered (c .before .before .before .before .before .before .before .before .args .nodes .now) (c .before .before .before .before .before .before .before .before .args .list .now) (c .before .before .before .before .before .before .before .before .args .at) (c .before .before .before .before .before .before .before .before .args .wanted) (c .before .before .before .before .before .before .before .before .args .got) (c .before .before .before .before .label-at .result) t (c .before .before .want-after .result) (c .tag-if-there .result)
+  e c = record { comes = (v (c .before .before .before .before)); upto = c .before .before .before .if2 .left; wants = c .before .before .want-after .ensures; own-is = c .tag-if-there .ensures }
 
   returns : lts.Need-returns (R t) (At t) own.Post
-  returns c = wrote-none (c .before .before .before .args .out .now) (c .before .before .before .args .n) (tagsFrom (covers (c .before .before .before .args .list .now)) (c .before .before .before .args .nodes .now) (c .before .before .before .args .at)) (none-at (c .before .before .before .pre .1 .0) (covers (c .before .before .before .args .list .now)) (c .if1 .taken))
+  returns c = wrote-none (c .before .before .before .args .out .now) (c .before .before .before .args .n) (tagsFrom (covers (c .before .before .before .args .list .now)) (c .before .before .before .args .nodes .now) (c .before .before .before .args .at)) (none-at (c .before .before .before .pre .1 .0 .shape) (covers (c .before .before .before .args .list .now)) (c .if1 .taken))
 
   label-at-requires : lts.Need-label-at-requires (R t) (At t) own.Post
-  label-at-requires c κs = asks-inside (c .before .before .before .pre .1 .1 .1 .0) (c .if1 .left)
+  label-at-requires c κs = asks-inside (c .before .before .before .pre .1 .0 .asks) (c .if1 .left)
 
   returns-2 : lts.Need-returns-2 (R t) (At t) own.Post
-  returns-2 c = wrote-none (c .before .before .before .before .before .args .out .now) (c .before .before .before .before .before .args .n) (tagsFrom (covers (c .before .before .before .before .before .args .list .now)) (c .before .before .before .before .before .args .nodes .now) (c .before .before .before .before .before .args .at)) (containing-past (c .before .before .before .before .before .args .list .now) (c .before .before .before .before .before .args .want) (c .before .before .before .before .before .args .got) (v (c .before)) (c .if2 .taken))
+  returns-2 c = wrote-none (c .before .before .before .before .before .args .out .now) (c .before .before .before .before .before .args .n) (tagsFrom (covers (c .before .before .before .before .before .args .list .now)) (c .before .before .before .before .before .args .nodes .now) (c .before .before .before .before .before .args .at)) (past (v (c .before)) (c .if2 .taken))
 
   want-after-requires : lts.Need-want-after-requires (R t) (At t) own.Post
-  want-after-requires c κs = ((small (v (c .before)), c .if2 .left), c .before .before .before .before .before .pre .1 .1 .0)
+  want-after-requires c κs = ((a-place (v (c .before)), c .if2 .left), c .before .before .before .before .before .pre .1 .0 .short)
 
   tag-if-there-requires : lts.Need-tag-if-there-requires (R t) (At t) own.Post
-  tag-if-there-requires c κs = inside (v (c .before .before .before))
+  tag-if-there-requires c κs = in-table (v (c .before .before .before))
 
   put-tag-requires : lts.Need-put-tag-requires (R t) (At t) own.Post
-  put-tag-requires c κs = omega (arith, c .before .before .before .before .before .before .before .before .pre .1 .1 .1 .1, room (e (c)) refl refl)
+  put-tag-requires c κs = omega (arith, c .before .before .before .before .before .before .before .before .pre .1 .1, room (entered (e c)) refl refl)
 
   child-at-requires : lts.Need-child-at-requires (R t) (At t) own.Post
-  child-at-requires c κs = inside (v (c .before .before .before .before .before .before .before .before))
+  child-at-requires c κs = in-table (v (c .before .before .before .before .before .before .before .before))
 
   list-containing-requires : lts.Need-list-containing-requires (R t) (At t) own.Post
-  list-containing-requires c κs = let h = to-child (e (c .before .before .before .before .before)) (c .child-at .ensures .0) (c .before .before .before .before .before .before .before .before .before .before .before .before .before .pre .0) in (h .0, (c .before .before .before .before .before .before .before .before .before .before .before .before .before .pre .1 .0, (short-after (c .before .before .before .before .before .before .before .before .before .before .before .before .before .args .list .now) (c .before .before .before .before .before .before .before .before .before .label-at .result) (c .before .before .before .before .before .before .before .before .before .before .before .before .before .args .want) (c .before .before .before .before .before .before .before .before .before .before .before .before .before .args .got) (c .before .before .before .before .before .before .before .before .if2 .left) (c .before .before .before .before .before .before .before .want-after .ensures) (small (v (c .before .before .before .before .before .before .before .before .before))) (c .before .before .before .before .before .before .before .before .before .before .before .before .before .pre .1 .1 .0), (h .1, omega (arith, c .before .before .before .before .before .before .before .before .before .before .before .before .before .pre .1 .1 .1 .1, c .before .before .before .before .put-tag .ensures .ends, room (e (c .before .before .before .before .before)) (c .child-at .ensures .0) refl)))))
+  list-containing-requires c κs = let h = to-child (e (c .before .before .before .before .before)) (c .child-at .ensures .0) in (h .0, (h .1, omega (arith, c .before .before .before .before .before .before .before .before .before .before .before .before .before .pre .1 .1, c .before .before .before .before .put-tag .ensures .ends, room (entered (e (c .before .before .before .before .before))) (c .child-at .ensures .0) refl)))
 
   next-at-requires : lts.Need-next-at-requires (R t) (At t) own.Post
-  next-at-requires c κs = inside (v (c .before .before .before .before .before .before .before .before .before .before .before .before .before))
+  next-at-requires c κs = in-table (v (c .before .before .before .before .before .before .before .before .before .before .before .before .before))
 
   list-containing-requires-2 : lts.Need-list-containing-requires-2 (R t) (At t) own.Post
-  list-containing-requires-2 c κs = let h = to-next (v (c .before .before .before .before .before .before .before .before .before .before .before .before .before .before)) (c .next-at .ensures .0) (c .before .before .before .before .before .before .before .before .before .before .before .before .before .before .before .before .before .before .pre .0) in (h .0, (c .before .before .before .before .before .before .before .before .before .before .before .before .before .before .before .before .before .before .pre .1 .0, (c .before .before .before .before .before .before .before .before .before .before .before .before .before .before .before .before .before .before .pre .1 .1 .0, (h .1, omega (arith, c .before .before .before .before .before .before .before .before .before .before .before .before .before .before .before .before .before .before .pre .1 .1 .1 .1, c .before .before .before .before .before .before .before .before .before .put-tag .ensures .ends, c .before .before .before .before .list-containing .ensures .ends, room (e (c .before .before .before .before .before .before .before .before .before .before)) (c .before .before .before .before .before .child-at .ensures .0) (c .next-at .ensures .0))))))
+  list-containing-requires-2 c κs = let h = to-next (v (c .before .before .before .before .before .before .before .before .before .before .before .before .before .before)) (c .next-at .ensures .0) in (h .0, (h .1, omega (arith, c .before .before .before .before .before .before .before .before .before .before .before .before .before .before .before .before .before .before .pre .1 .1, c .before .before .before .before .before .before .before .before .before .put-tag .ensures .ends, c .before .before .before .before .list-containing .ensures .ends, room (entered (e (c .before .before .before .before .before .before .before .before .before .before))) (c .before .before .before .before .before .child-at .ensures .0) (c .next-at .ensures .0))))
 
   same-length : lts.Need-same-length (R t) (At t) own.Post
   same-length c = c .before .before .list-containing2 .kept .1 .1 .0 ∙ c .before .before .before .before .before .before .before .list-containing .kept .1 .1 .0 ∙ c .before .before .before .before .before .before .before .before .before .before .before .before .put-tag .kept .0
 
   returns-3 : lts.Need-returns-3 (R t) (At t) own.Post
-  returns-3 c = set-down (e (c .before .before .before .before .before .before .before .before .before .before .before .before .before)) (c .before .before .before .before .before .before .before .before .child-at .ensures .0) (c .before .before .before .next-at .ensures .0) (c .before .before .before .before .before .before .before .before .before .before .before .before .put-tag .ensures) (c .before .before .before .before .before .before .before .list-containing .ensures) (c .before .before .list-containing2 .ensures)
+  returns-3 c = set-down (entered (e (c .before .before .before .before .before .before .before .before .before .before .before .before .before))) (c .before .before .before .before .before .before .before .before .child-at .ensures .0) (c .before .before .before .next-at .ensures .0) (c .before .before .before .before .before .before .before .before .before .before .before .before .put-tag .ensures) (c .before .before .before .before .before .before .before .list-containing .ensures) (c .before .before .list-containing2 .ensures)
 
 pub +list-containing-spec : {M : Type 1} → statement M
 +list-containing-spec =

@@ -1,11 +1,12 @@
+-- As `first_within`; what is set down is a node's own tag, then those below it, then those behind it.
 use mathlib.Core.Path.{refl, ap, _∙_}
 use native.Mathlib.Omega.{arith}
 use lib.ListN.{length}
-use Rattle.kits.specs.Along.{fitsAlong}
 use Rattle.nodes.specs.Walk.{rank}
 use Rattle.questions.specs.Walks.{fits, tagsFrom}
-use Rattle.questions.proofs.Asked.{Visit, visit, asks-inside, inside, small, to-next, none-at, wrote-none, wrote-same, Enters, to-child, room, set-down}
-use Rattle.questions.proofs.Labels.{within-past, within-skips, within-enters}
+use Rattle.questions.proofs.Written.{wrote-none, wrote-same}
+use Rattle.questions.proofs.Asked.{asks-inside, none-at, room, set-down}
+use Rattle.questions.proofs.Within.{Seen, in-table, a-place, past, skipped, to-next, Entered, entered, to-child}
 use Prim.Native.Nat.{ℕ, _<_}
 use borrow.Fn.Kinds.{In}
 use borrow.Fn.PlainCycle.{Measures, is, falls, and}
@@ -49,56 +50,56 @@ R t = (
 )
 
 module _ (t : ℕ) where
-  v : (c : lts.After-label-at (R t) (At t) own.Post) → Visit (fits (c .before .before .before .before .args .bin .now)) (fitsAlong (c .before .before .before .before .args .bin .now) (c .before .before .before .before .args .last) (c .before .before .before .before .args .had)) (c .before .before .before .before .args .nodes .now) (c .before .before .before .before .args .at) (c .label-at .result)
-  v c = visit (c .before .before .before .before .pre .1 .0) (c .before .before .before .before .pre .1 .1 .1 .0) (c .before .if1 .left) (c .label-at .ensures)
+  v : (c : lts.After-label-at (R t) (At t) own.Post) → Seen (c .before .before .before .before .args .nodes .now) (c .before .before .before .before .args .bin .now) (c .before .before .before .before .args .top) (c .before .before .before .before .args .at) (c .before .before .before .before .args .last) (c .before .before .before .before .args .had) (c .label-at .result) t
+  v c = record { knows = c .before .before .before .before .pre .1 .0; measured = c .before .before .before .before .pre .0; node = c .before .if1 .left; l-is = c .label-at .ensures }
 
-  e : (c : lts.After-tag-at (R t) (At t) own.Post) → Enters (fits (c .before .before .before .before .before .before .before .before .before .before .args .bin .now)) (fitsAlong (c .before .before .before .before .before .before .before .before .before .before .args .bin .now) (c .before .before .before .before .before .before .before .before .before .before .args .last) (c .before .before .before .before .before .before .before .before .before .before .args .had)) (fitsAlong (c .before .before .before .before .before .before .before .before .before .before .args .bin .now) (c .before .before .before .before .before .before .label-at .result) (c .before .before .before .before .come-again .result)) (c .before .before .before .before .before .before .before .before .before .before .args .nodes .now) (c .before .before .before .before .before .before .before .before .before .before .args .at) (c .before .before .before .before .before .before .label-at .result) (c .tag-at .result)
-  e c = within-enters (c .before .before .before .before .before .before .before .before .before .before .args .bin .now) (c .before .before .before .before .before .before .before .before .before .before .args .last) (c .before .before .before .before .before .before .before .before .before .before .args .had) (v (c .before .before .before .before .before .before)) (c .before .before .before .before .come-again .ensures) (c .before .before .if3 .left) (c .tag-at .ensures)
+  e : (c : lts.After-tag-at (R t) (At t) own.Post) → Entered (c .before .before .before .before .before .before .before .before .before .before .args .nodes .now) (c .before .before .before .before .before .before .before .before .before .before .args .bin .now) (c .before .before .before .before .before .before .before .before .before .before .args .top) (c .before .before .before .before .before .before .before .before .before .before .args .at) (c .before .before .before .before .before .before .before .before .before .before .args .last) (c .before .before .before .before .before .before .before .before .before .before .args .had) (c .before .before .before .before .before .before .label-at .result) t (c .before .before .before .before .come-again .result) (c .tag-at .result)
+  e c = record { comes = (v (c .before .before .before .before .before .before)); times = c .before .before .before .before .come-again .ensures; some = c .before .before .if3 .left; own-is = c .tag-at .ensures }
 
   returns : lts.Need-returns (R t) (At t) own.Post
-  returns c = wrote-none (c .before .before .before .args .out .now) (c .before .before .before .args .n) (tagsFrom (fits (c .before .before .before .args .bin .now)) (c .before .before .before .args .nodes .now) (c .before .before .before .args .at)) (none-at (c .before .before .before .pre .1 .0) (fits (c .before .before .before .args .bin .now)) (c .if1 .taken))
+  returns c = wrote-none (c .before .before .before .args .out .now) (c .before .before .before .args .n) (tagsFrom (fits (c .before .before .before .args .bin .now)) (c .before .before .before .args .nodes .now) (c .before .before .before .args .at)) (none-at (c .before .before .before .pre .1 .0 .shape) (fits (c .before .before .before .args .bin .now)) (c .if1 .taken))
 
   label-at-requires : lts.Need-label-at-requires (R t) (At t) own.Post
-  label-at-requires c κs = asks-inside (c .before .before .before .pre .1 .1 .1 .0) (c .if1 .left)
+  label-at-requires c κs = asks-inside (c .before .before .before .pre .1 .0 .asks) (c .if1 .left)
 
   returns-2 : lts.Need-returns-2 (R t) (At t) own.Post
-  returns-2 c = wrote-none (c .before .before .before .before .before .args .out .now) (c .before .before .before .before .before .args .n) (tagsFrom (fits (c .before .before .before .before .before .args .bin .now)) (c .before .before .before .before .before .args .nodes .now) (c .before .before .before .before .before .args .at)) (within-past (c .before .before .before .before .before .args .bin .now) (c .before .before .before .before .before .args .last) (c .before .before .before .before .before .args .had) (v (c .before)) (c .before .before .before .before .before .pre .1 .1 .0) (c .if2 .taken))
+  returns-2 c = wrote-none (c .before .before .before .before .before .args .out .now) (c .before .before .before .before .before .args .n) (tagsFrom (fits (c .before .before .before .before .before .args .bin .now)) (c .before .before .before .before .before .args .nodes .now) (c .before .before .before .before .before .args .at)) (past (v (c .before)) (c .if2 .taken))
 
   come-again-requires : lts.Need-come-again-requires (R t) (At t) own.Post
-  come-again-requires c κs = small (v (c .before))
+  come-again-requires c κs = a-place (v (c .before))
 
   next-at-requires : lts.Need-next-at-requires (R t) (At t) own.Post
-  next-at-requires c κs = inside (v (c .before .before))
+  next-at-requires c κs = in-table (v (c .before .before))
 
   list-within-requires : lts.Need-list-within-requires (R t) (At t) own.Post
-  list-within-requires c κs = let h = to-next (v (c .before .before .before .before .before)) (c .before .before .next-at .ensures .0) (c .before .before .before .before .before .before .before .before .before .pre .0) in (h .0, (c .before .before .before .before .before .before .before .before .before .pre .1 .0, (c .before .before .before .before .before .before .before .before .before .pre .1 .1 .0, (h .1, omega (arith, c .before .before .before .before .before .before .before .before .before .pre .1 .1 .1 .1, ap length (within-skips (c .before .before .before .before .before .before .before .before .before .args .bin .now) (c .before .before .before .before .before .before .before .before .before .args .last) (c .before .before .before .before .before .before .before .before .before .args .had) (v (c .before .before .before .before .before)) (c .before .before .before .come-again .ensures) (c .before .if3 .taken) (c .before .before .next-at .ensures .0)))))))
+  list-within-requires c κs = let h = to-next (v (c .before .before .before .before .before)) (c .before .before .next-at .ensures .0) in (h .0, (h .1, omega (arith, c .before .before .before .before .before .before .before .before .before .pre .1 .1, ap length (skipped (v (c .before .before .before .before .before)) (c .before .before .before .come-again .ensures) (c .before .if3 .taken) (c .before .before .next-at .ensures .0)))))
 
   same-length : lts.Need-same-length (R t) (At t) own.Post
   same-length c = c .before .before .list-within .kept .1 .1 .0
 
   returns-3 : lts.Need-returns-3 (R t) (At t) own.Post
-  returns-3 c = wrote-same (within-skips (c .before .before .before .before .before .before .before .before .before .before .before .before .args .bin .now) (c .before .before .before .before .before .before .before .before .before .before .before .before .args .last) (c .before .before .before .before .before .before .before .before .before .before .before .before .args .had) (v (c .before .before .before .before .before .before .before .before)) (c .before .before .before .before .before .before .come-again .ensures) (c .before .before .before .before .if3 .taken) (c .before .before .before .before .before .next-at .ensures .0)) (c .before .before .list-within .ensures)
+  returns-3 c = wrote-same (skipped (v (c .before .before .before .before .before .before .before .before)) (c .before .before .before .before .before .before .come-again .ensures) (c .before .before .before .before .if3 .taken) (c .before .before .before .before .before .next-at .ensures .0)) (c .before .before .list-within .ensures)
 
   tag-at-requires : lts.Need-tag-at-requires (R t) (At t) own.Post
-  tag-at-requires c κs = inside (v (c .before .before .before .before .before))
+  tag-at-requires c κs = in-table (v (c .before .before .before .before .before))
 
   put-tag-requires : lts.Need-put-tag-requires (R t) (At t) own.Post
-  put-tag-requires c κs = omega (arith, c .before .before .before .before .before .before .before .before .before .before .pre .1 .1 .1 .1, room (e (c)) refl refl)
+  put-tag-requires c κs = omega (arith, c .before .before .before .before .before .before .before .before .before .before .pre .1 .1, room (entered (e c)) refl refl)
 
   child-at-requires : lts.Need-child-at-requires (R t) (At t) own.Post
-  child-at-requires c κs = inside (v (c .before .before .before .before .before .before .before .before .before .before))
+  child-at-requires c κs = in-table (v (c .before .before .before .before .before .before .before .before .before .before))
 
   list-within-requires-2 : lts.Need-list-within-requires-2 (R t) (At t) own.Post
-  list-within-requires-2 c κs = let h = to-child (e (c .before .before .before .before .before)) (c .child-at .ensures .0) (c .before .before .before .before .before .before .before .before .before .before .before .before .before .before .before .pre .0) in (h .0, (c .before .before .before .before .before .before .before .before .before .before .before .before .before .before .before .pre .1 .0, (c .before .before .before .before .before .before .before .before .before .before .before .before .before .before .before .pre .1 .1 .0, (h .1, omega (arith, c .before .before .before .before .before .before .before .before .before .before .before .before .before .before .before .pre .1 .1 .1 .1, c .before .before .before .before .put-tag .ensures .ends, room (e (c .before .before .before .before .before)) (c .child-at .ensures .0) refl)))))
+  list-within-requires-2 c κs = let h = to-child (e (c .before .before .before .before .before)) (c .child-at .ensures .0) in (h .0, (h .1, omega (arith, c .before .before .before .before .before .before .before .before .before .before .before .before .before .before .before .pre .1 .1, c .before .before .before .before .put-tag .ensures .ends, room (entered (e (c .before .before .before .before .before))) (c .child-at .ensures .0) refl)))
 
   list-within-requires-3 : lts.Need-list-within-requires-3 (R t) (At t) own.Post
-  list-within-requires-3 c κs = let h = to-next (v (c .before .before .before .before .before .before .before .before .before .before .before .before .before .before .before)) (c .before .before .before .before .before .before .before .before .before .before .before .before .next-at .ensures .0) (c .before .before .before .before .before .before .before .before .before .before .before .before .before .before .before .before .before .before .before .pre .0) in (h .0, (c .before .before .before .before .before .before .before .before .before .before .before .before .before .before .before .before .before .before .before .pre .1 .0, (c .before .before .before .before .before .before .before .before .before .before .before .before .before .before .before .before .before .before .before .pre .1 .1 .0, (h .1, omega (arith, c .before .before .before .before .before .before .before .before .before .before .before .before .before .before .before .before .before .before .before .pre .1 .1 .1 .1, c .before .before .before .before .before .before .before .before .put-tag .ensures .ends, c .before .before .before .list-within2 .ensures .ends, room (e (c .before .before .before .before .before .before .before .before .before)) (c .before .before .before .before .child-at .ensures .0) (c .before .before .before .before .before .before .before .before .before .before .before .before .next-at .ensures .0))))))
+  list-within-requires-3 c κs = let h = to-next (v (c .before .before .before .before .before .before .before .before .before .before .before .before .before .before .before)) (c .before .before .before .before .before .before .before .before .before .before .before .before .next-at .ensures .0) in (h .0, (h .1, omega (arith, c .before .before .before .before .before .before .before .before .before .before .before .before .before .before .before .before .before .before .before .pre .1 .1, c .before .before .before .before .before .before .before .before .put-tag .ensures .ends, c .before .before .before .list-within2 .ensures .ends, room (entered (e (c .before .before .before .before .before .before .before .before .before))) (c .before .before .before .before .child-at .ensures .0) (c .before .before .before .before .before .before .before .before .before .before .before .before .next-at .ensures .0))))
 
   same-length-2 : lts.Need-same-length-2 (R t) (At t) own.Post
   same-length-2 c = c .before .before .list-within3 .kept .1 .1 .0 ∙ c .before .before .before .before .before .before .list-within2 .kept .1 .1 .0 ∙ c .before .before .before .before .before .before .before .before .before .before .before .put-tag .kept .0
 
   returns-4 : lts.Need-returns-4 (R t) (At t) own.Post
-  returns-4 c = set-down (e (c .before .before .before .before .before .before .before .before .before .before .before .before)) (c .before .before .before .before .before .before .before .child-at .ensures .0) (c .before .before .before .before .before .before .before .before .before .before .before .before .before .before .before .next-at .ensures .0) (c .before .before .before .before .before .before .before .before .before .before .before .put-tag .ensures) (c .before .before .before .before .before .before .list-within2 .ensures) (c .before .before .list-within3 .ensures)
+  returns-4 c = set-down (entered (e (c .before .before .before .before .before .before .before .before .before .before .before .before))) (c .before .before .before .before .before .before .before .child-at .ensures .0) (c .before .before .before .before .before .before .before .before .before .before .before .before .before .before .before .next-at .ensures .0) (c .before .before .before .before .before .before .before .before .before .before .before .put-tag .ensures) (c .before .before .before .before .before .before .list-within2 .ensures) (c .before .before .list-within3 .ensures)
 
 pub +list-within-spec : {M : Type 1} → statement M
 +list-within-spec =
