@@ -15,10 +15,10 @@ use Rattle.kits.proofs.Along.{next-wanted}
 use Rattle.nodes.specs.Nodes.{child, next, label, tag, size}
 use Rattle.questions.specs.Walks.{covers, tagsFrom, Short, AtList, come, wantAfter}
 use Rattle.questions.specs.declared.Want.{Want}
-use Rattle.questions.proofs.Asked.{Visit, visit, here, inside, small, stops, next-asks, Enters, child-asks, root-asks}
+use Rattle.questions.proofs.Asked.{Visit, visit, here, inside, small, stops, Behind, later-behind, later-asks, Enters, child-asks, root-asks}
 use Rattle.nodes.specs.Sound.{Shape}
 use Rattle.nodes.specs.Walk.{rank}
-use Rattle.nodes.proofs.Walk.{child-less, next-less}
+use Rattle.nodes.proofs.Walk.{child-less}
 
 -- Containing a list: the label x comes, `want` is wanted and `got` of it have come
 module _ (Q : List ℕ) (x want got : ℕ) where
@@ -105,11 +105,12 @@ module _ {N Q : List ℕ} {at want got l t : ℕ} (v : Seen N Q at want got l t)
   pub past : want < l → tagsFrom (covers Q) N at ≡ []
   past h = stops seen (λ x s g b. covers-past Q x want got (omega arith) s)
 
-  pub to-next : {k : ℕ} → k ≡ next N at → (rank N k < t) × AtList N Q k want got
-  to-next e = rw e (
-    omega (arith, v .measured, next-less (v .knows .shape) at (here seen)),
-    record { shape = v .knows .shape; short = v .knows .short; asks = next-asks seen },
-  )
+  -- what is behind, where later labels can answer
+  pub behind : {m : ℕ} → m ≡ cond (ltb l want) (next N at) 0 → Behind (covers Q) N at m
+  behind e = later-behind seen want (λ x s g b. covers-past Q x want got g s) e
+
+  pub to-later : {k : ℕ} → k ≡ cond (ltb l want) (next N at) 0 → (rank N k < t) × AtList N Q k want got
+  to-later e = let h = later-asks seen want e in (omega (arith, h .0, v .measured), record { shape = v .knows .shape; short = v .knows .short; asks = h .1 })
 
 -- and once it has entered the node: what is wanted now, and its own tag where nothing is
 pub record Entered (N Q : List ℕ) (at want got l t : ℕ) (w : Want) (own : ℕ) : Type 0 where

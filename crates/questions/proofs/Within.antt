@@ -15,10 +15,10 @@ use Rattle.kits.specs.Along.{fitsAlong}
 use Rattle.nodes.specs.Nodes.{child, next, label, tag, size}
 use Rattle.nodes.proofs.Lists.{same-or}
 use Rattle.questions.specs.Walks.{fits, tagsFrom, Tops, AtBin, come}
-use Rattle.questions.proofs.Asked.{Visit, visit, here, inside, small, stops, skips, next-asks, Enters, child-asks, root-asks}
+use Rattle.questions.proofs.Asked.{Visit, visit, here, inside, small, stops, skips, Behind, later-behind, later-asks, Enters, child-asks, root-asks}
 use Rattle.nodes.specs.Sound.{Shape}
 use Rattle.nodes.specs.Walk.{rank}
-use Rattle.nodes.proofs.Walk.{child-less, next-less}
+use Rattle.nodes.proofs.Walk.{child-less}
 
 -- Within a bin: the label x comes behind `last`, which has come `had` times
 module _ (Q : List ℕ) (x last had : ℕ) (s : List ℕ) where
@@ -98,14 +98,15 @@ module _ {N Q : List ℕ} {top at last had l t : ℕ} (v : Seen N Q top at last 
   past h = stops seen (λ x s g b. fits-past Q x last had s (v .knows .tops) (omega arith) b)
 
   -- a label that is used up is skipped with all that is below it
-  pub skipped : {n m : ℕ} → n ≡ come Q l last had → n ≡ 0 → m ≡ next N at → tagsFrom (fits Q) N at ≡ tagsFrom (fits Q) N m
+  pub skipped : {n m : ℕ} → n ≡ come Q l last had → n ≡ 0 → Behind (fits Q) N at m → tagsFrom (fits Q) N at ≡ tagsFrom (fits Q) N m
   skipped e z f = skips seen (λ s. fits-over Q l last had s e z) f
 
-  pub to-next : {k : ℕ} → k ≡ next N at → (rank N k < t) × AtBin N Q top k last had
-  to-next e = rw e (
-    omega (arith, v .measured, next-less (v .knows .shape) at (here seen)),
-    record { shape = v .knows .shape; tops = v .knows .tops; asks = next-asks seen },
-  )
+  -- what is behind, where later labels can answer
+  pub behind : {m : ℕ} → m ≡ cond (ltb l top) (next N at) 0 → Behind (fits Q) N at m
+  behind e = later-behind seen top (λ x s g b. fits-past Q x last had s (v .knows .tops) g b) e
+
+  pub to-later : {k : ℕ} → k ≡ cond (ltb l top) (next N at) 0 → (rank N k < t) × AtBin N Q top k last had
+  to-later e = let h = later-asks seen top e in (omega (arith, h .0, v .measured), record { shape = v .knows .shape; tops = v .knows .tops; asks = h .1 })
 
 -- and once it has entered the node: its label has come n times now, and its own tag is read
 pub record Entered (N Q : List ℕ) (top at last had l t n own : ℕ) : Type 0 where

@@ -8,7 +8,7 @@ ghost use lib.ListN.{length, getD};
 ghost use Rattle.ground.specs.Calls.{Promise, setDown};
 ghost use Rattle.kits.specs.Kits.{mostPlace, goodList};
 ghost use Rattle.kits.specs.Along.{nextWanted};
-ghost use Rattle.nodes.specs.Nodes.{mostNodes, tag, size};
+ghost use Rattle.nodes.specs.Nodes.{mostNodes, next, tag, size};
 ghost use Rattle.nodes.specs.Sound.{Shape, Sound};
 ghost use Rattle.questions.specs.Questions.{isWithin, isContaining, anyOf, allOf, listedReply};
 ghost use Rattle.questions.specs.Walks.{fits, covers, tagsFrom, tagsIn, someTag, Tops, Short, AtBin, AtList, Wrote, come, wantAfter};
@@ -21,7 +21,10 @@ use nodes::next_at;
 use nodes::tag_at;
 
 // The place behind the greatest: no part is wanted any more
-const ALL_THERE: u16 = 256;
+const ALL_THERE: u16 = PLACES as u16;
+
+// The greatest place there can be
+const MOST_PLACE: u16 = ALL_THERE - 1;
 
 fn quantity(amounts: &[u16; 256], place: u16) -> u16
     requires { ⌜ place ≤ mostPlace ⌝ }
@@ -45,11 +48,22 @@ fn put_tag(out: &mut [u16], n: usize, t: u16) -> usize
     n + 1
 }
 
+// The next sibling, or none where no later label can answer: labels above `last` cannot.
+fn later(nodes: &[u16], at: usize, label: u16, last: u16) -> usize
+    requires { ⌜ at < size (now nodes) ⌝ }
+    ensures { λ r. ⌜ r ≡ cond (ltb label last) (next (now (nodes .entry)) at) 0 ⌝ }
+{
+    if label < last {
+        return next_at(nodes, at);
+    }
+    0
+}
+
 // The bin's last place, 0 where it has none.
 fn last_place(bin: &[u16; 256]) -> u16
     ensures { λ r. ⌜ Tops (now (bin .entry)) r ⌝ }
 {
-    let mut place = 255;
+    let mut place = MOST_PLACE;
     while 0 < place {
         if quantity(bin, place) != 0 {
             return place;
@@ -90,7 +104,7 @@ fn first_within(nodes: &[u16], bin: &[u16; 256], top: u16, at: usize, last: u16,
         return 0;
     }
     let times = come_again(bin, label, last, had);
-    let next = next_at(nodes, at);
+    let next = later(nodes, at, label, top);
     if times == 0 {
         return first_within(nodes, bin, top, next, last, had);
     }
@@ -127,7 +141,7 @@ fn list_within(
         return n;
     }
     let times = come_again(bin, label, last, had);
-    let next = next_at(nodes, at);
+    let next = later(nodes, at, label, top);
     if times == 0 {
         return list_within(nodes, bin, out, n, top, next, last, had);
     }
@@ -260,7 +274,7 @@ fn first_containing(nodes: &[u16], list: &[u16; 256], at: usize, want: u16, got:
     if below != 0 {
         return below;
     }
-    first_containing(nodes, list, next_at(nodes, at), want, got)
+    first_containing(nodes, list, later(nodes, at, label, want), want, got)
 }
 
 // Sets down the tags of the kits that contain the list on the chain that starts at a link, and below it, from n on; returns the place of the next.
@@ -294,7 +308,15 @@ fn list_containing(
         then.place,
         then.got,
     );
-    list_containing(nodes, list, out, k, next_at(nodes, at), wanted, got)
+    list_containing(
+        nodes,
+        list,
+        out,
+        k,
+        later(nodes, at, label, wanted),
+        wanted,
+        got,
+    )
 }
 
 // Sets down the tags of all kits that contain the list, as far as there is room; returns how many they are.
