@@ -1,8 +1,8 @@
 -- The units of good lists are good rows, and rows and lists are the same thing twice: from lines to units and back.
 use mathlib.Core.Path.{_≡_, refl, ap, sym, _∙_}
 use mathlib.Core.Bool.{Bool, true, false, cond}
-use mathlib.Core.Logic.{_⊎_, inl, inr}
-use mathlib.Core.List.{List, [], _∷_, _++_}
+use mathlib.Core.Logic.{_↔_, _⊎_, inl, inr}
+use mathlib.Core.List.{List·Memᴰ, List, [], _∷_, _++_}
 use Prim.Native.Nat.{ℕ, zero, suc, _+_, _≤_, _<_}
 use native.Mathlib.Nat.{add-zero}
 use native.Mathlib.Omega.{arith}
@@ -10,13 +10,13 @@ use lib.ListN.{length, getD, replicate}
 use lib.Dec.{eqb}
 use borrow.Author.Tests.{eqb-true, eqb-false, eq-eqb, ne-eqb}
 use Rattle.ground.proofs.Laws.{and-left, and-right}
-use Rattle.kits.specs.Kits.{mostQuantity, mostUnits, goodList, oneEach, units, count, linesFrom, listOf, GoodRow}
+use Rattle.kits.specs.Kits.{Within, includes, quantity, mostQuantity, mostUnits, goodList, oneEach, units, count, linesFrom, listOf, GoodRow}
 use Rattle.kits.specs.Rows.{rowOf, IsRow}
 use Rattle.kits.proofs.Good.{GoodLines, none, line, good-lines, lines-good-list}
-use Rattle.kits.proofs.Quantities.{count-replicate}
+use Rattle.kits.proofs.Quantities.{quantity-count, count-replicate}
 use Rattle.kits.proofs.Rows.{row-back}
 use Rattle.kits.proofs.Checks.{le-or}
-use Rattle.kits.proofs.Inclusion.{count-none, count-same, count-other, count-tail, count-append, Rises, end, on, rises-from, rises-none, rises-low, rises-at, rises-is}
+use Rattle.kits.proofs.Inclusion.{includes-within, within-includes, within-antisymmetric, set-inclusion, count-none, count-same, count-other, count-tail, count-append, Rises, end, on, rises-from, rises-none, rises-low, rises-at, rises-is}
 
 -- no place above n
 pub data Upto (n : ℕ) : List ℕ → Type 0 where
@@ -170,6 +170,17 @@ ones (line {p = p} {q = q} {l = l} a b c d g) h x = rw (count-append x (replicat
 pub set-once : (n : ℕ) (l : List ℕ) → goodList n l ≡ true → oneEach l ≡ true → (x : ℕ) → count x (units l) ≤ 1
 set-once n l h o = ones (good-lines n l h) o
 
+-- there inclusion is the subset of sets: every place of the one is in the other
+pub set-subset : (n : ℕ) (l b : List ℕ) → goodList n l ≡ true → oneEach l ≡ true → Within (units l) b ↔ ((p : ℕ) → List·Memᴰ p (units l) → List·Memᴰ p b)
+set-subset n l b h o = set-inclusion (units l) b (set-once n l h o)
+
+-- inclusion of lists, in demand 2's words: "for each part, the kit's quantity is no more than the bin's"
+pub list-inclusion : (bin kit : List ℕ) → (includes (units bin) (units kit) ≡ true) ↔ ((p : ℕ) → quantity kit p ≤ quantity bin p)
+list-inclusion bin kit = (
+  λ h p. omega (arith, includes-within (units bin) (units kit) h p, quantity-count kit p, quantity-count bin p),
+  λ f. within-includes (units bin) (units kit) (λ p. omega (arith, f p, quantity-count kit p, quantity-count bin p)),
+)
+
 -- "at most 15 equal", told by places that stand 15 apart
 front-many : {p : ℕ} {r : List ℕ} → Rises p r → (x i : ℕ) → x ≤ p → i < length r → getD r i 0 ≤ x → suc i ≤ count x r
 front-many end x i l h g = absurd (omega arith)
@@ -218,8 +229,16 @@ few-count (on {x = y} {r = r} a s) k f x = go (eqb x y) refl (few-count s k (λ 
     go true e h (inr g) = absurd (less g)
     go false e h g = omega (arith, count-other x y r (eqb-false x y e))
 
-row-rising : {n : ℕ} {r : List ℕ} → GoodRow n r → Rises 1 r
+-- a good row, walked from its front
+pub row-rising : {n : ℕ} {r : List ℕ} → GoodRow n r → Rises 1 r
 row-rising {r = r} g = rises-is 1 r (λ h. g .some-place 0 h) (g .rises)
+
+pub row-upto : {n : ℕ} {r : List ℕ} → GoodRow n r → Upto n r
+row-upto {n} {r} g = upto-is n r (g .a-place)
+
+-- on rows inclusion is antisymmetric
+pub rows-antisymmetric : {n m : ℕ} {a b : List ℕ} → GoodRow n a → GoodRow m b → Within a b → Within b a → a ≡ b
+rows-antisymmetric g h = within-antisymmetric (row-rising g) (row-rising h)
 
 pub few-apart : {n : ℕ} {r : List ℕ} → GoodRow n r → (i : ℕ) → i + mostQuantity < length r → getD r i 0 < getD r (i + mostQuantity) 0
 few-apart {r = r} g i h = go (le-or (getD r (i + 15) 0) (getD r i 0))
