@@ -1,0 +1,2 @@
+-- The program's laws.
+pub mod Laws

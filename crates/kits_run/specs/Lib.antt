@@ -1,0 +1,2 @@
+-- What the program's own functions are held to.
+pub mod Run
