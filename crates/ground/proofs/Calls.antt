@@ -1,11 +1,15 @@
 -- Laws of every call, whatever its plan: what refuses it, what a refusal leaves, and that nothing else could meet its promise.
-use mathlib.Core.Path.{_≡_, refl, sym, _∙_}
+use mathlib.Core.Path.{_≡_, refl, sym, ap, _∙_}
 use mathlib.Core.Logic.{_↔_}
 use mathlib.Core.Bool.{Bool, true, false, cond}
-use mathlib.Core.List.{List, [], _∷_}
-use Prim.Native.Nat.{ℕ}
+use mathlib.Core.List.{List, [], _∷_, _++_}
+use Prim.Native.Nat.{ℕ, _≤_, _<_}
 use native.Mathlib.Omega.{arith}
-use Rattle.ground.specs.Calls.{Case, Plan, Reply, done, refused, decide, answer, leaves, memory, Promise, Given, here, later}
+use lib.ListN.{length}
+use lib.Dec.{ltb}
+use borrow.Author.Tests.{ltb-true, lt-ltb, le-ltb}
+use Rattle.ground.specs.Laid.{laid}
+use Rattle.ground.specs.Calls.{Case, given, Plan, Reply, done, refused, decide, answer, leaves, memory, Promise, setDown, Given, here, later}
 
 -- The pinned law: any two answers and memories that meet a promise are the same.
 pub pinned : {A : Type 0} {p : Plan A} {old : A} {r s : Reply} {m w : A} → Promise p old r m → Promise p old s w → (r ≡ s) × (m ≡ w)
@@ -59,3 +63,42 @@ refused-given (c ∷ cs) w n v e = go (c .test) refl e (refused-given cs w n v)
 pub refused-exactly : {A : Type 0} (p : Plan A) (n v : ℕ) → (answer p ≡ refused n v) ↔ Given n v (p .cases)
 unfolding answer
 refused-exactly p n v = (refused-given (p .cases) (p .value) n v, given-refuses (p .cases) (p .value) n v)
+
+-- A call that sets down an output: behind other refusals that are not given it is the same call.
+pub decide-behind : (cs ds : List Case) (v w : ℕ) → decide cs v ≡ done v → decide (cs ++ ds) w ≡ decide ds w
+unfolding decide
+decide-behind [] ds v w e = refl
+decide-behind (c ∷ cs) ds v w e =
+    let p = done-passes c cs v v e in
+    rw (p .0) (decide-behind cs ds v w (p .1))
+
+module _ (xs o : List ℕ) where
+  -- 12 exactly when the output is shorter than what is to be set down
+  set-down-short : (ltb (length o) (length xs) ≡ true) → answer (setDown [] xs o) ≡ refused 12 (length xs)
+  unfolding answer setDown decide
+  set-down-short e = rw e
+
+  set-down-long : (ltb (length o) (length xs) ≡ false) → answer (setDown [] xs o) ≡ done (length xs)
+  unfolding answer setDown decide
+  set-down-long e = rw e
+
+  pub set-down-full : length o < length xs → Promise (setDown [] xs o) o (refused 12 (length xs)) o
+  set-down-full h = promise-refused (setDown [] xs o) o 12 (length xs) (set-down-short (lt-ltb (length o) (length xs) h))
+
+  pub set-down-done : length xs ≤ length o → Promise (setDown [] xs o) o (done (length xs)) (laid o 0 xs)
+  unfolding setDown
+  set-down-done h = promise-done (setDown [] xs o) o (length xs) (laid o 0 xs) (set-down-long (le-ltb (length o) (length xs) h)) refl
+
+  pub set-down-exactly : (answer (setDown [] xs o) ≡ refused 12 (length xs)) ↔ (length o < length xs)
+  set-down-exactly = (go (ltb (length o) (length xs)) refl, λ h. set-down-short (lt-ltb (length o) (length xs) h))
+    where
+      go : (b : Bool) → ltb (length o) (length xs) ≡ b → answer (setDown [] xs o) ≡ refused 12 (length xs) → length o < length xs
+      go true e h = ltb-true (length o) (length xs) e
+      go false e h = absurd (let k = set-down-long e in let z : _≡_ {A = ℕ} 0 1 = cc in omega arith)
+
+-- where the other refusals are not given, the promise is that of the setting down
+pub set-down-behind : (cs : List Case) (v : ℕ) (xs o : List ℕ) {r : Reply} {m : List ℕ} → decide cs v ≡ done v → Promise (setDown [] xs o) o r m → Promise (setDown cs xs o) o r m
+unfolding setDown memory answer
+set-down-behind cs v xs o e p =
+    let d = decide-behind cs (given (ltb (length o) (length xs)) 12 (length xs) ∷ []) v (length xs) e in
+    record { answers = p .answers ∙ sym d; lent = p .lent ∙ ap (λ a. leaves a o (laid o 0 xs)) (sym d) }

@@ -1,8 +1,11 @@
 -- "Calls and what they answer": what a call is, what it answers, and what it leaves in the memory lent to it.
 use mathlib.Core.Path.{_≡_}
 use mathlib.Core.Bool.{Bool, true, false, cond}
-use mathlib.Core.List.{List, [], _∷_}
+use mathlib.Core.List.{List, [], _∷_, _++_}
 use Prim.Native.Nat.{ℕ}
+use lib.Dec.{ltb}
+use lib.ListN.{length}
+use Rattle.ground.specs.Laid.{laid}
 
 -- A refusal: the case in which it is given, its number and its value
 pub record Case : Type 0 where
@@ -61,3 +64,8 @@ pub record Promise {A : Type 0} (p : Plan A) (old : A) (r : Reply) (m : A) : Typ
 pub data Given (n v : ℕ) : List Case → Type 0 where
   here : {c : Case} {cs : List Case} → c .test ≡ true → c .number ≡ n → c .value ≡ v → Given n v (c ∷ cs)
   later : {c : Case} {cs : List Case} → c .test ≡ false → Given n v cs → Given n v (c ∷ cs)
+
+-- A call that sets down xs at the start of an output o, behind its other refusals: 12 where "a listing or sheet exceeds its output (value: places or
+-- bytes needed in all)"; its value is how many; "what lies behind the answer keeps its contents"
+unfoldable pub setDown : List Case → List ℕ → List ℕ → Plan (List ℕ)
+setDown cs xs o = plan (cs ++ (given (ltb (length o) (length xs)) 12 (length xs) ∷ [])) (length xs) (laid o 0 xs)
