@@ -1,7 +1,7 @@
 -- Laws of every call, whatever its plan: what refuses it, what a refusal leaves, and that nothing else could meet its promise.
 use mathlib.Core.Path.{_≡_, refl, sym, ap, _∙_}
 use mathlib.Core.Logic.{_↔_}
-use mathlib.Core.Bool.{Bool, true, false, cond}
+use mathlib.Core.Bool.{Bool, true, false, cond, false≢true}
 use mathlib.Core.List.{List, [], _∷_, _++_}
 use Prim.Native.Nat.{ℕ, _≤_, _<_}
 use native.Mathlib.Omega.{arith}
@@ -9,7 +9,7 @@ use lib.ListN.{length}
 use lib.Dec.{ltb}
 use borrow.Author.Tests.{ltb-true, lt-ltb, le-ltb}
 use Rattle.ground.specs.Laid.{laid}
-use Rattle.ground.specs.Calls.{Case, given, Plan, Reply, done, refused, decide, answer, leaves, memory, Promise, setDown, Given, here, later}
+use Rattle.ground.specs.Calls.{Case, given, Plan, Reply, done, refused, isRefused, decide, answer, leaves, memory, Promise, setDown, Given, here, later}
 
 -- The pinned law: any two answers and memories that meet a promise are the same.
 pub pinned : {A : Type 0} {p : Plan A} {old : A} {r s : Reply} {m w : A} → Promise p old r m → Promise p old s w → (r ≡ s) × (m ≡ w)
@@ -44,6 +44,37 @@ done-passes c cs v w = go (c .test)
     go : (b : Bool) → cond b (refused (c .number) (c .value)) (decide cs v) ≡ done w → (b ≡ false) × (decide cs v ≡ done w)
     go true e = absurd (let z : _≡_ {A = ℕ} 0 1 = cc in omega arith)
     go false e = (refl, e)
+
+-- What the first refusals of a call decide: where they refuse, the call is refused so; where they do not, the others decide.
+refused-before : (cs ds : List Case) (v w : ℕ) → isRefused (decide cs v) ≡ true → decide (cs ++ ds) w ≡ decide cs v
+unfolding decide
+refused-before [] ds v w e = absurd (false≢true e)
+refused-before (c ∷ cs) ds v w e = go (c .test) (refused-before cs ds v w) e
+  where
+    go : (b : Bool) → (isRefused (decide cs v) ≡ true → decide (cs ++ ds) w ≡ decide cs v) → isRefused (cond b (refused (c .number) (c .value)) (decide cs v)) ≡ true → cond b (refused (c .number) (c .value)) (decide (cs ++ ds) w) ≡ cond b (refused (c .number) (c .value)) (decide cs v)
+    go true f h = refl
+    go false f h = f h
+
+passed-before : (cs ds : List Case) (v w : ℕ) → isRefused (decide cs v) ≡ false → decide (cs ++ ds) w ≡ decide ds w
+unfolding decide
+passed-before [] ds v w e = refl
+passed-before (c ∷ cs) ds v w e = go (c .test) (passed-before cs ds v w) e
+  where
+    go : (b : Bool) → (isRefused (decide cs v) ≡ false → decide (cs ++ ds) w ≡ decide ds w) → isRefused (cond b (refused (c .number) (c .value)) (decide cs v)) ≡ false → cond b (refused (c .number) (c .value)) (decide (cs ++ ds) w) ≡ decide ds w
+    go true f h = absurd (false≢true (sym h))
+    go false f h = f h
+
+module _ (r : Reply) (cs ds : List Case) (v w : ℕ) (is : r ≡ decide cs v) where
+  pub first-refuses : isRefused r ≡ true → r ≡ decide (cs ++ ds) w
+  first-refuses e = is ∙ sym (refused-before cs ds v w (ap isRefused (sym is) ∙ e))
+
+  pub first-passes : isRefused r ≡ false → decide (cs ++ ds) w ≡ decide ds w
+  first-passes e = passed-before cs ds v w (ap isRefused (sym is) ∙ e)
+
+-- What a function has to show of a call whose first refusals refuse it.
+pub promise-first : {A : Type 0} (p : Plan A) (old : A) (r : Reply) → isRefused r ≡ true → r ≡ answer p → Promise p old r old
+promise-first p old (done v) e is = absurd (false≢true e)
+promise-first p old (refused n v) e is = promise-refused p old n v (sym is)
 
 given-refuses : (cs : List Case) (w n v : ℕ) → Given n v cs → decide cs w ≡ refused n v
 unfolding decide
