@@ -1,0 +1,4 @@
+-- Laws of the sheet's bytes.
+pub mod Numbers
+pub mod Written
+pub mod Accepted
