@@ -34,8 +34,8 @@ bytes-take s n h i = go (below-or i n) where
   go : (i < n) ⊎ (n ≤ i) → getD (take n s) i 0 < 256
   go (inl u) = rw (getD-take n s i 0 u) (h i)
   go (inr u) =
-    let l : length (take n s) ≤ i = omega (arith, length-take n s) in
-    rw (List·getD-eq-default (take n s) 0 l) (omega arith)
+      let l : length (take n s) ≤ i = omega (arith, length-take n s) in
+      rw (List·getD-eq-default (take n s) 0 l) (omega arith)
 
 pub bytes-drop : (s : List ℕ) (n : ℕ) → Bytes s → Bytes (drop n s)
 bytes-drop s n h i = rw (getD-drop n s i 0) (h (n + i))
