@@ -1,21 +1,19 @@
 -- The laws of the sheet: contents that fit the format are read back; what is accepted is what would be written; so a sheet means one thing, and
 -- no second sheet means the same.
-use mathlib.Core.Path.{_≡_, refl, ap, sym, _∙_}
-use mathlib.Core.Bool.{Bool, true, false, _&&_}
+use mathlib.Core.Path.{_≡_, refl, sym, _∙_}
+use mathlib.Core.Bool.{true, _&&_}
 use mathlib.Core.List.{List, [], _∷_}
-use Prim.Native.Nat.{ℕ, _≤_, _<_}
-use native.Mathlib.Omega.{arith}
+use Prim.Native.Nat.{ℕ}
 use lib.ListN.{length}
 use lib.Dec.{leb, ltb, eqb}
 use borrow.Author.Tests.{leb-true, le-leb, ltb-true, lt-ltb, eqb-true, eq-eqb}
 use Rattle.ground.specs.Lists.{allb, anyb, every, distinct, eqList}
 use Rattle.ground.proofs.Laws.{and-left, and-right, and-both, same-cases, every-at, eqList-sym}
-use Rattle.kits.specs.Kits.{before}
 use Rattle.register.specs.Number.{goodNumber}
 use Rattle.nodes.specs.Held.{Kit, tagsOf}
 use Rattle.sheet.specs.Bytes.{twoLimit, Bytes}
 use Rattle.sheet.specs.Sheet.{Contents, encode, goodKit, rising, fitting}
-use Rattle.sheet.specs.Reading.{Item, item, fault, hasTag, follows, decode, isFault, said}
+use Rattle.sheet.specs.Reading.{item, fault, hasTag, follows, decode}
 use Rattle.sheet.proofs.Fresh.{Fresh, none, also, fresh-distinct, distinct-fresh}
 use Rattle.sheet.proofs.Written.{NewNumbers, NewKits, Fit, decode-fit}
 use Rattle.sheet.proofs.Accepted.{decode-again}
