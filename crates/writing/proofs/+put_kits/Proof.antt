@@ -1,0 +1,152 @@
+use mathlib.Core.Path.{_≡_, ap, sym, _∙_}
+use mathlib.Core.List.{List, _++_}
+use Prim.Native.Nat.{_+_, _-_}
+use native.Mathlib.Omega.{arith}
+use lib.ListN.{length}
+use Rattle.nodes.specs.Nodes.{child, next, size}
+use Rattle.nodes.specs.Sound.{Used}
+use Rattle.nodes.specs.Walk.{rank}
+use Rattle.nodes.proofs.Walk.{child-less, next-less, child-live}
+use Rattle.writing.specs.Written.{SetDown, ownRecord, recordsFrom}
+use Rattle.writing.proofs.Down.{Going, rest-of, back, down-none, down-same, down-size, first-room, going-of, going-room, going-inside, going-on, last-inside, last-room, going-last}
+use Rattle.writing.proofs.Records.{from-none, from-some}
+use Prim.Native.Nat.{ℕ, _<_}
+use borrow.Fn.Kinds.{In}
+use borrow.Fn.PlainCycle.{Measures, is, falls, and}
+use Rattle.writing.proofs.put_kits.Reads as own
+use Rattle.writing.proofs.put_kits.Kinds as kinds
+use Rattle.writing.proofs.+put_kits.Lts-put_kits as lts
+use Rattle.nodes.proofs.child_at.Reads as child-at-reads
+use Rattle.nodes.proofs.next_at.Reads as next-at-reads
+use Rattle.writing.proofs.put_own.Reads as put-own-reads
+use Rattle.writing.proofs.+put_kits.{statement}
+use Rattle.writing.proofs.+put_kits.Tie.{close}
+
+abbrev μ : Measures 2 kinds.ps ℕ
+μ κs a = rank (a .1 .0 .now) (a .1 .1 .0)
+
+abbrev At : ℕ → In 2 kinds.ps
+At t = and 2 kinds.ps (is 2 kinds.ps μ t) own.Pre
+
+abbrev Below : ℕ → In 2 kinds.ps
+Below t = and 2 kinds.ps (falls 2 kinds.ps _<_ μ t) own.Pre
+
+abbrev R : ℕ → lts.Claims
+R t = (
+  put-own-reads.Asked,
+  put-own-reads.Learnt,
+  child-at-reads.Asked,
+  child-at-reads.Learnt,
+  Below t,
+  own.Post,
+  next-at-reads.Asked,
+  next-at-reads.Learnt,
+)
+
+module _ (t : ℕ) where
+  used : (c : lts.Else1 (R t) (At t) own.Post) → Used (c .before .before .before .args .nodes .now) (c .before .before .before .args .link)
+  used c = c .before .before .before .pre .1 .1 .0 (omega (arith, c .if1 .left))
+
+  module _ (c : lts.After-slice-known2 (R t) (At t) own.Post) where
+    abbrev below : List ℕ
+    below = recordsFrom (c .before .before .before .before .before .before .before .args .nodes .now) (child (c .before .before .before .before .before .before .before .args .nodes .now) (c .before .before .before .before .before .before .before .args .link))
+
+    abbrev behind : List ℕ
+    behind = recordsFrom (c .before .before .before .before .before .before .before .args .nodes .now) (next (c .before .before .before .before .before .before .before .args .nodes .now) (c .before .before .before .before .before .before .before .args .link))
+
+    first : Going (c .before .before .before .before .before .before .before .args .out .now) (c .before .before .put-own .last .0) (c .before .before .put-own .result) (below ++ behind) (recordsFrom (c .before .before .before .before .before .before .before .args .nodes .now) (c .before .before .before .before .before .before .before .args .link))
+    first = going-of (below ++ behind) (c .before .before .put-own .ensures) (from-some (c .before .before .before .before .before .before .before .args .nodes .now) (c .before .before .before .before .before .before .before .pre .1 .0) (c .before .before .before .before .before .before .before .args .link) (used (c .before .before .before .before))) (c .before .before .before .before .before .before .before .pre .1 .1 .1)
+
+  module _ (c : lts.After-slice-known3 (R t) (At t) own.Post) where
+    below-down : SetDown (rest-of (c .before .before .before .before .before .before .before .put-own .last .0) (c .before .before .before .before .before .before .before .put-own .result)) (c .before .before .put-kits .last .0) (below (c .before .before .before .before .before)) (c .before .before .put-kits .result)
+    below-down = down-same (c .before .before .put-kits .ensures) (ap (recordsFrom (c .before .before .before .before .before .before .before .before .before .before .before .before .args .nodes .now)) (c .before .before .before .child-at .ensures .0))
+
+    below-ends : c .before .before .put-kits .result ≡ length (below (c .before .before .before .before .before))
+    below-ends = below-down .ends
+
+    second : Going (c .before .before .before .before .before .before .before .before .before .before .before .before .args .out .now) (back (c .before .before .before .before .before .before .before .put-own .last .0) (c .before .before .before .before .before .before .before .put-own .result) (c .before .before .put-kits .last .0)) (c .before .before .before .before .before .before .before .put-own .result + c .before .before .put-kits .result) (behind (c .before .before .before .before .before)) (recordsFrom (c .before .before .before .before .before .before .before .before .before .before .before .before .args .nodes .now) (c .before .before .before .before .before .before .before .before .before .before .before .before .args .link))
+    second = going-on (below (c .before .before .before .before .before)) (behind (c .before .before .before .before .before)) (first (c .before .before .before .before .before)) (c .before .before .put-kits .last .0) (c .before .before .put-kits .result) below-down
+
+  module _ (c : lts.After-slice-known4 (R t) (At t) own.Post) where
+    behind-down : SetDown (rest-of (back (c .before .before .before .before .before .before .before .before .before .before .before .before .put-own .last .0) (c .before .before .before .before .before .before .before .before .before .before .before .before .put-own .result) (c .before .before .before .before .before .before .before .put-kits .last .0)) (c .before .before .before .before .before .before .before .before .before .before .before .before .put-own .result + c .before .before .before .before .before .before .before .put-kits .result)) (c .before .before .put-kits2 .last .0) (behind (c .before .before .before .before .before .before .before .before .before .before)) (c .before .before .put-kits2 .result)
+    behind-down = down-same (c .before .before .put-kits2 .ensures) (ap (recordsFrom (c .before .before .before .before .before .before .before .before .before .before .before .before .before .before .before .before .before .args .nodes .now)) (c .before .before .before .next-at .ensures .0))
+
+    behind-ends : c .before .before .put-kits2 .result ≡ length (behind (c .before .before .before .before .before .before .before .before .before .before))
+    behind-ends = behind-down .ends
+
+    third : SetDown (c .before .before .before .before .before .before .before .before .before .before .before .before .before .before .before .before .before .args .out .now) (back (back (c .before .before .before .before .before .before .before .before .before .before .before .before .put-own .last .0) (c .before .before .before .before .before .before .before .before .before .before .before .before .put-own .result) (c .before .before .before .before .before .before .before .put-kits .last .0)) (c .before .before .before .before .before .before .before .before .before .before .before .before .put-own .result + c .before .before .before .before .before .before .before .put-kits .result) (c .before .before .put-kits2 .last .0)) (recordsFrom (c .before .before .before .before .before .before .before .before .before .before .before .before .before .before .before .before .before .args .nodes .now) (c .before .before .before .before .before .before .before .before .before .before .before .before .before .before .before .before .before .args .link)) (c .before .before .before .before .before .before .before .before .before .before .before .before .put-own .result + c .before .before .before .before .before .before .before .put-kits .result + c .before .before .put-kits2 .result)
+    third = going-last (second (c .before .before .before .before .before)) (c .before .before .put-kits2 .last .0) (c .before .before .put-kits2 .result) behind-down
+
+  returns : lts.Need-returns (R t) (At t) own.Post
+  returns c = down-same (down-none (c .before .before .before .args .out .now)) (sym (ap (recordsFrom (c .before .before .before .args .nodes .now)) (c .if1 .taken) ∙ from-none (c .before .before .before .args .nodes .now) (c .before .before .before .pre .1 .0)))
+
+  put-own-requires : lts.Need-put-own-requires (R t) (At t) own.Post
+  put-own-requires c κs = (c .before .before .before .before .pre .1 .0, (used (c .before) .inside, first-room (c .before .before .before .before .args .out .now) (ownRecord (c .before .before .before .before .args .nodes .now) (c .before .before .before .before .args .link)) (recordsFrom (c .before .before .before .before .args .nodes .now) (child (c .before .before .before .before .args .nodes .now) (c .before .before .before .before .args .link)) ++ recordsFrom (c .before .before .before .before .args .nodes .now) (next (c .before .before .before .before .args .nodes .now) (c .before .before .before .before .args .link))) (recordsFrom (c .before .before .before .before .args .nodes .now) (c .before .before .before .before .args .link)) (from-some (c .before .before .before .before .args .nodes .now) (c .before .before .before .before .pre .1 .0) (c .before .before .before .before .args .link) (used (c .before))) (c .before .before .before .before .pre .1 .1 .1)))
+
+  sub-put-kits : lts.Need-sub-put-kits (R t) (At t) own.Post
+  sub-put-kits c = omega (arith, going-inside (below c) (behind c) (first c))
+
+  part-put-kits-start : lts.Need-part-put-kits-start (R t) (At t) own.Post
+  part-put-kits-start c = omega (arith, going-inside (below c) (behind c) (first c))
+
+  part-put-kits-end : lts.Need-part-put-kits-end (R t) (At t) own.Post
+  part-put-kits-end c = omega arith
+
+  child-at-requires : lts.Need-child-at-requires (R t) (At t) own.Post
+  child-at-requires c κs = used (c .before .before .before .before .before) .inside
+
+  put-kits-requires : lts.Need-put-kits-requires (R t) (At t) own.Post
+  put-kits-requires c κs = let u = used (c .before .before .before .before .before .before) in
+      let S = c .before .before .before .before .before .before .before .before .before .pre .1 .0 in
+      let e = c .child-at .ensures .0 in
+      (omega (arith, c .before .before .before .before .before .before .before .before .before .pre .0, child-less S (c .before .before .before .before .before .before .before .before .before .args .link) u, ap (rank (c .before .before .before .before .before .before .before .before .before .args .nodes .now)) e), (S, (rw e (child-live S (c .before .before .before .before .before .before .before .before .before .args .link) (u .inside)), rw e (going-room (below (c .before .before)) (behind (c .before .before)) (first (c .before .before))))))
+
+  add-below : lts.Need-add-below (R t) (At t) own.Post
+  add-below c = omega (arith, going-inside (below (c .before .before .before .before .before)) (behind (c .before .before .before .before .before)) (first (c .before .before .before .before .before)), first (c .before .before .before .before .before) .size, below-ends c)
+
+  sub-put-kits-2 : lts.Need-sub-put-kits-2 (R t) (At t) own.Post
+  sub-put-kits-2 c = omega (arith, last-inside (second c))
+
+  part-put-kits-start-2 : lts.Need-part-put-kits-start-2 (R t) (At t) own.Post
+  part-put-kits-start-2 c = omega (arith, last-inside (second c))
+
+  part-put-kits-end-2 : lts.Need-part-put-kits-end-2 (R t) (At t) own.Post
+  part-put-kits-end-2 c = omega arith
+
+  next-at-requires : lts.Need-next-at-requires (R t) (At t) own.Post
+  next-at-requires c κs = used (c .before .before .before .before .before .before .before .before .before .before) .inside
+
+  put-kits-requires-2 : lts.Need-put-kits-requires-2 (R t) (At t) own.Post
+  put-kits-requires-2 c κs = let u = used (c .before .before .before .before .before .before .before .before .before .before .before) in
+      let S = c .before .before .before .before .before .before .before .before .before .before .before .before .before .before .pre .1 .0 in
+      let e = c .next-at .ensures .0 in
+      (omega (arith, c .before .before .before .before .before .before .before .before .before .before .before .before .before .before .pre .0, next-less S (c .before .before .before .before .before .before .before .before .before .before .before .before .before .before .args .link) u, ap (rank (c .before .before .before .before .before .before .before .before .before .before .before .before .before .before .args .nodes .now)) e), (S, (rw e (S .good (c .before .before .before .before .before .before .before .before .before .before .before .before .before .before .args .link) u .sibling), rw e (last-room (second (c .before .before))))))
+
+  add-result : lts.Need-add-result (R t) (At t) own.Post
+  add-result c = omega (arith, last-inside (second (c .before .before .before .before .before)), second (c .before .before .before .before .before) .size, behind-ends c)
+
+  same-length : lts.Need-same-length (R t) (At t) own.Post
+  same-length c = down-size (third c) (c .before .before .before .before .before .before .before .before .before .before .before .before .before .before .before .before .before .pre .1 .1 .1)
+
+  returns-2 : lts.Need-returns-2 (R t) (At t) own.Post
+  returns-2 c = third c
+
+pub +put-kits-spec : {M : Type 1} → statement M
++put-kits-spec =
+    close μ λ t. lts.spec (R t) (At t) own.Post
+    (returns t)
+    (put-own-requires t)
+    (sub-put-kits t)
+    (part-put-kits-start t)
+    (part-put-kits-end t)
+    (child-at-requires t)
+    (put-kits-requires t)
+    (add-below t)
+    (sub-put-kits-2 t)
+    (part-put-kits-start-2 t)
+    (part-put-kits-end-2 t)
+    (next-at-requires t)
+    (put-kits-requires-2 t)
+    (add-result t)
+    (same-length t)
+    (returns-2 t)

@@ -1,0 +1,4 @@
+-- Laws of what the writer sets down.
+pub mod Down
+pub mod Records
+pub mod Whole

@@ -1,0 +1,51 @@
+use mathlib.Core.Path.{_≡_, ap, sym, _∙_}
+use Prim.Native.Nat.{_+_, _*_, _/_, _≤_}
+use native.Mathlib.Omega.{arith}
+use lib.ListN.{length}
+use Rattle.kits.specs.Kits.{listOf}
+use Rattle.kits.specs.Rows.{unitsIn}
+use Rattle.nodes.specs.Sound.{Live}
+use Rattle.nodes.proofs.Held.{tagged-live}
+use Rattle.writing.specs.Written.{ownRecord}
+use Rattle.writing.proofs.Records.{own-none, own-length}
+use Rattle.writing.proofs.own_size.Statement.{statement}
+use Rattle.writing.proofs.own_size.Tie as tie
+
+live : (c : tie.Else1) → Live (c .before .before .before .args .nodes .now) (c .before .before .before .args .i)
+live c = tagged-live (c .before .before .before .pre .0) (c .before .before .before .args .i) (c .before .before .before .pre .1) (omega (arith, c .before .tag-at .ensures, c .if1 .left))
+
+size : (c : tie.After-line-count) → (length (ownRecord (c .before .before .before .before .before .args .nodes .now) (c .before .before .before .before .before .args .i)) ≡ 3 + length (listOf (unitsIn (c .before .row-at .result))) / 2 * 2) × (length (listOf (unitsIn (c .before .row-at .result))) / 2 ≤ 64)
+size c = own-length (c .before .before .before .before .before .args .nodes .now) (c .before .before .before .before .before .pre .0) (c .before .before .before .before .before .args .i) (live (c .before .before)) (c .before .row-at .result) (c .before .before .before .tag-at .result) (c .before .before .before .tag-at .ensures) (c .before .before .if1 .left) (c .before .row-at .ensures .0)
+
+tag-at-requires : tie.Need-tag-at-requires
+tag-at-requires c κs = c .before .pre .1
+
+returns : tie.Need-returns
+returns c = (sym (ap length (own-none (c .before .before .before .args .nodes .now) (c .before .before .before .args .i) (sym (c .before .tag-at .ensures) ∙ c .if1 .taken))), omega arith)
+
+row-at-requires : tie.Need-row-at-requires
+row-at-requires c κs = (c .before .before .before .pre .0, live c)
+
+line-count-requires : tie.Need-line-count-requires
+line-count-requires c κs = rw (c .row-at .ensures .0) (c .row-at .ensures .1)
+
+mul-result : tie.Need-mul-result
+mul-result c = omega (arith, c .line-count .ensures, size c .1)
+
+add-result : tie.Need-add-result
+add-result c = omega (arith, c .line-count .ensures, size c .1)
+
+returns-2 : tie.Need-returns-2
+returns-2 c = (omega (arith, c .line-count .ensures, size c .0), omega (arith, c .line-count .ensures, size c .1))
+
+pub own-size-spec : {M : Type 1} → statement M
+own-size-spec =
+    tie.close
+    (tie.spec
+    tag-at-requires
+    returns
+    row-at-requires
+    line-count-requires
+    mul-result
+    add-result
+    returns-2)

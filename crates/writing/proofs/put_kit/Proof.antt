@@ -1,0 +1,77 @@
+use lib.ListN.{length-set}
+use Rattle.writing.proofs.Down.{down-size}
+use mathlib.Core.Path.{_≡_, sym, _∙_}
+use Prim.Native.Nat.{_/_, _<_}
+use native.Mathlib.Omega.{arith}
+use lib.ListN.{length, set, length-map}
+use Rattle.kits.specs.Kits.{mostUnits, listOf}
+use Rattle.kits.specs.Rows.{unitsIn}
+use Rattle.kits.proofs.Rows.{row-length}
+use Rattle.sheet.specs.Bytes.{inBytes}
+use Rattle.sheet.specs.Sheet.{placeBytes, lineItems, recordItem}
+use Rattle.writing.specs.Written.{kitOf}
+use Rattle.writing.proofs.Down.{Going, last-inside, last-room, going-last}
+use Rattle.writing.proofs.Records.{kit-going, lines-few}
+use borrow.Author.Needs.{needs}
+use Rattle.writing.proofs.put_kit.Statement.{statement}
+use Rattle.writing.proofs.put_kit.Tie as tie
+
+-- a row by value has 64 places
+wide : (c : tie.Start) → length (c .args .row .places) ≡ mostUnits
+wide c = sym (length-map (c .args .row .places) (λ v. v)) ∙ c .good .1 .1 .0 .1 .1 .0 .1 .0 .1
+
+few : (c : tie.Start) → length (listOf (unitsIn (c .args .row))) / 2 < 256
+few c = omega (arith, c .pre .0, row-length (c .args .row) (wide c) (c .pre .0), lines-few (unitsIn (c .args .row)))
+
+going : (c : tie.After-line-count) → Going (c .before .before .before .before .before .before .args .out .now) (set (c .before .before .before .put-two .last .0) 2 (c .line-count .result)) 3 (lineItems placeBytes (listOf (unitsIn (c .before .before .before .before .before .before .args .row)))) (recordItem placeBytes (kitOf (unitsIn (c .before .before .before .before .before .before .args .row)) (c .before .before .before .before .before .before .args .tag)))
+going c = kit-going (unitsIn (c .before .before .before .before .before .before .args .row)) (c .before .before .before .before .before .before .args .tag) (c .line-count .result) (c .before .before .before .put-two .ensures) (c .line-count .ensures) (c .before .before .before .before .before .before .pre .1)
+
+put-two-requires : tie.Need-put-two-requires
+unfolding recordItem inBytes
+put-two-requires c κs = omega (arith, c .before .before .pre .1)
+
+line-count-requires : tie.Need-line-count-requires
+line-count-requires c κs = search needs
+
+cast-out : tie.Need-cast-out
+cast-out c = omega (arith, c .line-count .ensures, few (c .before .before .before .before .before .before))
+
+slice-write-out : tie.Need-slice-write-out
+slice-write-out c = omega (arith, rw length-set at (last-inside (going c)))
+
+sub-put-lines : tie.Need-sub-put-lines
+sub-put-lines c = omega (arith, last-inside (going c))
+
+part-put-lines-start : tie.Need-part-put-lines-start
+part-put-lines-start c = omega (arith, last-inside (going c))
+
+part-put-lines-end : tie.Need-part-put-lines-end
+part-put-lines-end c = search needs
+
+put-lines-requires : tie.Need-put-lines-requires
+put-lines-requires c κs = (c .before .before .before .before .before .before .before .pre .0, last-room (going (c .before)))
+
+add-result : tie.Need-add-result
+add-result c = omega (arith, last-inside (going (c .before .before .before .before)), going (c .before .before .before .before) .size, c .before .before .put-lines .ensures .ends)
+
+same-length : tie.Need-same-length
+same-length c = down-size (going-last (going (c .before .before .before .before)) (c .before .before .put-lines .last .0) (c .before .before .put-lines .result) (c .before .before .put-lines .ensures)) (c .before .before .before .before .before .before .before .before .before .before .pre .1)
+
+returns : tie.Need-returns
+returns c = going-last (going (c .before .before .before .before)) (c .before .before .put-lines .last .0) (c .before .before .put-lines .result) (c .before .before .put-lines .ensures)
+
+pub put-kit-spec : {M : Type 1} → statement M
+put-kit-spec =
+    tie.close
+    (tie.spec
+    put-two-requires
+    line-count-requires
+    cast-out
+    slice-write-out
+    sub-put-lines
+    part-put-lines-start
+    part-put-lines-end
+    put-lines-requires
+    add-result
+    same-length
+    returns)

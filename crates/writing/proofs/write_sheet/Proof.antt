@@ -1,0 +1,71 @@
+use mathlib.Core.Path.{_≡_, sym, _∙_, refl}
+use Prim.Native.Nat.{_+_}
+use native.Mathlib.Omega.{arith}
+use lib.ListN.{length}
+use Rattle.register.proofs.Sound.{ready-short}
+use Rattle.nodes.specs.Held.{held}
+use Rattle.sheet.specs.Sheet.{encode, contentsOf}
+use Rattle.writing.proofs.Down.{down-size}
+use Rattle.writing.proofs.Whole.{sheet-size, held-many, writing-12, writing-done}
+use Rattle.writing.proofs.write_sheet.Statement.{statement}
+use Rattle.writing.proofs.write_sheet.Tie as tie
+
+need : (c : tie.After-records-size) → 7 + c .before .numbers-size .result + 2 + c .records-size .result ≡ length (encode (contentsOf (c .before .before .before .before .before .before .args .reg .now) (c .before .before .before .before .before .before .args .nodes .now)))
+need c = omega (arith, c .records-size .ensures .0, c .before .numbers-size .ensures .0, sheet-size (c .before .before .before .before .before .before .args .reg .now) (c .before .before .before .before .before .before .args .nodes .now) (c .before .before .before .before .before .before .pre .0) (c .before .before .count-parts .result) (length (held (c .before .before .before .before .before .before .args .nodes .now))) (c .before .before .count-parts .ensures .0) refl)
+
+count-parts-requires : tie.Need-count-parts-requires
+count-parts-requires c κs = c .before .before .before .pre .0
+
+numbers-size-requires : tie.Need-numbers-size-requires
+numbers-size-requires c κs = (ready-short (c .before .before .before .before .args .reg .now) (c .before .before .before .before .pre .0) (c .count-parts .result) (c .count-parts .ensures .0), c .count-parts .ensures .1)
+
+add-need : tie.Need-add-need
+add-need c = omega (arith, c .numbers-size .ensures .1, c .before .count-parts .ensures .1)
+
+add-need-2 : tie.Need-add-need-2
+add-need-2 c = omega (arith, c .numbers-size .ensures .1, c .before .count-parts .ensures .1)
+
+records-size-requires : tie.Need-records-size-requires
+records-size-requires c κs = c .before .before .before .before .before .pre .1 .shape
+
+add-need-3 : tie.Need-add-need-3
+add-need-3 c = omega (arith, c .records-size .ensures .1, c .before .numbers-size .ensures .1, c .before .before .count-parts .ensures .1)
+
+returns : tie.Need-returns
+returns c = writing-12 (contentsOf (c .before .before .before .before .before .before .before .args .reg .now) (c .before .before .before .before .before .before .before .args .nodes .now)) (c .before .before .before .before .before .before .before .args .out .now) _ (need (c .before)) (c .if1 .taken)
+
+cast-new : tie.Need-cast-new
+cast-new c = omega (arith, c .before .before .before .count-parts .ensures .1)
+
+count-kits-requires : tie.Need-count-kits-requires
+count-kits-requires c κs = c .before .before .before .before .before .before .before .pre .1 .shape
+
+new-requires : tie.Need-new-requires
+new-requires c κs = tt
+
+put-items-requires : tie.Need-put-items-requires
+put-items-requires c κs = (c .before .before .before .before .before .before .before .before .before .before .pre .0, (c .before .before .before .before .before .before .before .before .before .before .pre .1, (record { parts = c .before .new .ensures .0 ∙ c .before .before .before .before .before .before .count-parts .ensures .0; kits = c .before .new .ensures .1 ∙ c .before .before .count-kits .ensures ∙ sym (held-many (c .before .before .before .before .before .before .before .before .before .before .args .nodes .now)) }, omega (arith, need (c .before .before .before .before), c .before .before .before .if1 .left))))
+
+same-length : tie.Need-same-length
+same-length c = down-size (c .before .before .put-items .ensures) (omega (arith, need (c .before .before .before .before .before .before .before), c .before .before .before .before .before .before .if1 .left))
+
+returns-2 : tie.Need-returns-2
+returns-2 c = writing-done (contentsOf (c .before .before .before .before .before .before .before .before .before .before .before .before .before .args .reg .now) (c .before .before .before .before .before .before .before .before .before .before .before .before .before .args .nodes .now)) (c .before .before .before .before .before .before .before .before .before .before .before .before .before .args .out .now) _ (need (c .before .before .before .before .before .before .before)) _ (c .before .before .put-items .result) (c .before .before .before .before .before .before .if1 .left) (c .before .before .put-items .ensures)
+
+pub write-sheet-spec : {M : Type 1} → statement M
+write-sheet-spec =
+    tie.close
+    (tie.spec
+    count-parts-requires
+    numbers-size-requires
+    add-need
+    add-need-2
+    records-size-requires
+    add-need-3
+    returns
+    cast-new
+    count-kits-requires
+    new-requires
+    put-items-requires
+    same-length
+    returns-2)
