@@ -9,17 +9,13 @@ use Rattle.kits.specs.Kits.{goodList, listOf, before, mostUnits}
 use Rattle.register.specs.Number.{goodNumber}
 use Rattle.ground.specs.Limits.{mostParts}
 use Rattle.register.specs.Register.{partsOf}
-use Rattle.nodes.specs.Held.{Kit, tagsOf, held, allBeginnings}
+use Rattle.nodes.specs.Held.{Kit, tagsOf, allBeginnings, listed}
 use Rattle.sheet.specs.Bytes.{inBytes, two, twoLimit}
 
 -- what a catalogue has and a sheet says
 pub record Contents : Type 0 where
   pub parts : List (List ℕ)
   pub kits : List Kit
-
--- the kits that a sheet speaks of
-abbrev pub listed : List ℕ → List Kit
-listed N = held N
 
 -- of a register and a node table
 abbrev pub contentsOf : List ℕ → List ℕ → Contents
