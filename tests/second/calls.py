@@ -220,6 +220,14 @@ CALLS = {
     "r": read_sheet,
 }
 
+
+def known_letters(text):
+    """The letters given in place of the probe's, each one of the table."""
+    if not text or any(letter not in CALLS for letter in text):
+        raise ValueError("letters are some of " + "".join(CALLS))
+    return text
+
+
 # The calls that give a stretch: the probe sends it back as O, "an empty stretch where refused".
 SHOWING = "n"
 

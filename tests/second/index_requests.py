@@ -4,11 +4,12 @@ import functools
 
 from . import index, nodes
 from .chance import Chance
-from .frame import Request
+from .frame import ROOM, Request
 from .kits import MOST_QUANTITY, MOST_UNITS, beginnings, lines_of, units, words_of
 from .nodes import FREE, MOST_NODES, NODE_WORDS, ROOT, Node
 from .register import MOST_SLOTS, filled, numbers_of
 from .register_requests import damaged_register, many_numbers
+from .short_cases import CONTAINING, DELETE, SHORT_CASES, WITHIN
 
 # The calls that are lent both tables and look at them, and those that take a list.
 TABLE_LETTERS = "kfdwcWCs"
@@ -282,7 +283,8 @@ def deletions():
     rows = [row for row, _ in kits] + [(2,), (2, 2), (4,), (4, 4), (1, 1), (1, 2, 4), (3, 3)]
     for row in rows:
         for letter in "fd":
-            yield Request(letter, R=four, N=words, L=words_of(lines_of(row)), note="row %s" % (row,))
+            yield Request(letter, R=four, N=words, L=words_of(lines_of(row)),
+                          note="row %s" % (row,))
     for first, _ in kits:
         less = index.deleted(words, first)
         for row in [()] + [held for held, _ in kits if held and held[:1] == first[:1]]:
@@ -294,26 +296,14 @@ def deletions():
                           L=words_of(lines_of(row)), note="row %s" % (row,))
 
 
-# Document 01's short cases: the kits held, and the question or deletion on them.
-SHORT_CASES = [
-    ([], "within", [1]),
-    ([()], "within", []),
-    ([()], "containing", [1]),
-    ([(1,), (1, 1)], "within", [1]),
-    ([(1,), (1, 1)], "containing", [1]),
-    ([(1, 3)], "containing", [3]),
-    ([(2,)], "within", [1, 2]),
-    ([(1, 2), (2,)], "within", [2, 3]),
-    ([(1,), (1, 2)], "delete", [1]),
-    ([(1,), (1, 2)], "delete", [1, 2]),
-]
-CASE_LETTERS = {"within": "wW", "containing": "cC", "delete": "d"}
+# The calls that try each kind of short case.
+CASE_LETTERS = {WITHIN: "wW", CONTAINING: "cC", DELETE: "d"}
 
 
 def short_cases():
     """Document 01's table of short cases, and the wrong turns that the trade has seen."""
     three = parts_register(3)
-    for held, question, row in SHORT_CASES:
+    for held, question, row, _ in SHORT_CASES:
         words = table(6, *((kit, tag) for tag, kit in enumerate(held, start=11)))
         for letter in CASE_LETTERS[question]:
             yield Request(letter, R=three, N=words, L=words_of(lines_of(row)),
@@ -482,7 +472,7 @@ def large():
     """Tables of 4,096 nodes and one more, chains of 255 siblings, 255 lines, long outputs."""
     full = parts_register(MOST_SLOTS, MOST_SLOTS)
     for length in (MOST_NODES * NODE_WORDS, MOST_NODES * NODE_WORDS + 1,
-                   (MOST_NODES + 1) * NODE_WORDS, (MOST_NODES - 1) * NODE_WORDS, 28700):
+                   (MOST_NODES + 1) * NODE_WORDS, (MOST_NODES - 1) * NODE_WORDS, ROOM["N"]):
         for letter in ALL_LETTERS:
             yield Request(letter, 7, R=parts_register(2), N=[0] * length, L=[1, 2],
                           P=some_output(letter), O=bytes(60), note="%d words" % length)
@@ -501,7 +491,7 @@ def large():
         words = large_table(kind)
         for listed in ([], [16, 1, 100, 1], everything, LONGEST_LIST):
             for letter in LIST_LETTERS:
-                yield Request(letter, 40000, R=full, N=words, L=listed, P=[9] * 4200,
+                yield Request(letter, 40000, R=full, N=words, L=listed, P=[9] * ROOM["P"],
                               note="4096 nodes, %s, list of %d words" % (kind, len(listed)))
         yield Request("k", 1, R=full, N=words, L=[255, 15], note="4096 nodes, tag taken")
         yield Request("k", 60001, R=full, N=words, L=[200, 1, 255, 15], note="4096 nodes, " + kind)
@@ -601,8 +591,9 @@ def some_list(chance, kits, parts):
                       for place in range(1, parts + 1)}
     if parts and chance.one_in(3):
         place = chance.between(1, parts)
-        quantities[place] = min(15, max(0, quantities.get(place, 0) + chance.pick((-1, 1, 1, 2))))
-    words = words_of(sorted((place, quantity) for place, quantity in quantities.items() if quantity))
+        quantity = quantities.get(place, 0) + chance.pick((-1, 1, 1, 2))
+        quantities[place] = min(MOST_QUANTITY, max(0, quantity))
+    words = words_of(sorted(line for line in quantities.items() if line[1] > 0))
     if chance.one_in(5):
         words = faulty_list(chance, words, parts)
     return words

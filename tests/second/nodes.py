@@ -1,6 +1,8 @@
 """The node table of document 01: its fields, its soundness, and the kits that it holds."""
 
 from collections import namedtuple
+from functools import lru_cache
+from itertools import chain as joined
 
 # "Lent 16-bit words, six per node .. 1 to 4,096 nodes."
 Node = namedtuple("Node", "parent first_child next_sibling label depth tag")
@@ -16,6 +18,9 @@ FREE = Node(*[0] * NODE_WORDS)
 DEEPEST = 64
 MOST_EQUAL_LABELS = 15
 
+# A call and the next one mostly look at the same table; so many verdicts are remembered.
+REMEMBERED = 8
+
 
 def right_length(words):
     """Whether the table has whole nodes, "1 to 4,096"."""
@@ -25,12 +30,18 @@ def right_length(words):
 
 def nodes_of(words):
     """The nodes in their order."""
-    return [Node(*words[at:at + NODE_WORDS]) for at in range(0, len(words), NODE_WORDS)]
+    return list(remembered_nodes(tuple(words)))
+
+
+@lru_cache(maxsize=REMEMBERED)
+def remembered_nodes(words):
+    """The nodes of these words."""
+    return tuple(map(Node._make, zip(*[iter(words)] * NODE_WORDS)))
 
 
 def words_of(nodes):
     """The table's words."""
-    return [word for node in nodes for word in node]
+    return list(joined.from_iterable(nodes))
 
 
 def used(nodes, at):
@@ -40,7 +51,7 @@ def used(nodes, at):
 
 def used_numbers(nodes):
     """The numbers of the used nodes."""
-    return [at for at in range(len(nodes)) if used(nodes, at)]
+    return [ROOT] + [at for at, node in enumerate(nodes) if node != FREE and at != ROOT]
 
 
 def root_is_right(nodes):
@@ -49,11 +60,11 @@ def root_is_right(nodes):
     return root.parent == root.next_sibling == root.label == root.depth == 0
 
 
-def links_are_below(nodes):
-    """Whether "every link is below the number of nodes"."""
+def links_are_below(nodes, numbers):
+    """Whether "every link is below the number of nodes"; those of a free node are 0."""
     return all(link < len(nodes)
-               for node in nodes
-               for link in (node.parent, node.first_child, node.next_sibling))
+               for at in numbers
+               for link in (nodes[at].parent, nodes[at].first_child, nodes[at].next_sibling))
 
 
 def has_right_parent(nodes, at, parts):
@@ -98,10 +109,10 @@ def chain(nodes, at):
     return numbers
 
 
-def all_on_chains(nodes):
+def all_on_chains(nodes, numbers):
     """Whether "every used node but the root is found on its parent's chain"."""
     chains = {}
-    for at in used_numbers(nodes):
+    for at in numbers:
         if at == ROOT:
             continue
         parent = nodes[at].parent
@@ -112,10 +123,10 @@ def all_on_chains(nodes):
     return True
 
 
-def path_rows(nodes):
+def path_rows(nodes, numbers):
     """For each used node the labels on the path from the root to it."""
     rows = {ROOT: ()}
-    for at in used_numbers(nodes):
+    for at in numbers:
         climbed = []
         while at not in rows:
             climbed.append(at)
@@ -125,25 +136,25 @@ def path_rows(nodes):
     return rows
 
 
-def few_equal_labels(nodes):
+def few_equal_labels(nodes, numbers):
     """Whether "no path has more than 15 equal labels".
 
     Every label on a path is the last label of a shorter path, so the last ones are counted.
     """
     return all(row.count(row[-1]) <= MOST_EQUAL_LABELS
-               for row in path_rows(nodes).values() if row)
+               for row in path_rows(nodes, numbers).values() if row)
 
 
-def childless_have_tags(nodes):
+def childless_have_tags(nodes, numbers):
     """Whether "a used node without children, other than the root, has a tag"."""
     return all(nodes[at].tag != NO_TAG
-               for at in used_numbers(nodes)
+               for at in numbers
                if at != ROOT and nodes[at].first_child == NONE)
 
 
-def tags_differ(nodes):
-    """Whether "nonzero tags differ"."""
-    tags = [node.tag for node in nodes if node.tag != NO_TAG]
+def tags_differ(nodes, numbers):
+    """Whether "nonzero tags differ", the root's among them."""
+    tags = [nodes[at].tag for at in numbers if nodes[at].tag != NO_TAG]
     return len(tags) == len(set(tags))
 
 
@@ -153,21 +164,28 @@ def sound(words, parts):
     The conditions stand so that each can rely on those before it: links lead to nodes, then
     paths to the root and chains have an end.
     """
+    return remembered_verdict(tuple(words), parts)
+
+
+@lru_cache(maxsize=REMEMBERED)
+def remembered_verdict(words, parts):
+    """Whether these words are sound."""
     nodes = nodes_of(words)
     numbers = used_numbers(nodes)
     return (root_is_right(nodes)
-            and links_are_below(nodes)
+            and links_are_below(nodes, numbers)
             and all(has_right_parent(nodes, at, parts) for at in numbers if at != ROOT)
-            and few_equal_labels(nodes)
+            and few_equal_labels(nodes, numbers)
             and all(first_child_is_right(nodes, at) for at in numbers)
             and all(next_sibling_is_right(nodes, at) for at in numbers)
-            and all_on_chains(nodes)
-            and childless_have_tags(nodes)
-            and tags_differ(nodes))
+            and all_on_chains(nodes, numbers)
+            and childless_have_tags(nodes, numbers)
+            and tags_differ(nodes, numbers))
 
 
 def held_kits(words):
     """The kits held: "the label rows of paths from the root to tagged nodes", with their tags."""
     nodes = nodes_of(words)
     return {row: nodes[at].tag
-            for at, row in path_rows(nodes).items() if nodes[at].tag != NO_TAG}
+            for at, row in path_rows(nodes, used_numbers(nodes)).items()
+            if nodes[at].tag != NO_TAG}

@@ -1,5 +1,7 @@
 """Part numbers and the register, as document 01's section of that name defines them."""
 
+from functools import lru_cache
+
 # "A part number is 1 to 24 bytes, each a digit, a capital A to Z, hyphen, full stop or slash."
 SHORTEST_NUMBER = 1
 LONGEST_NUMBER = 24
@@ -12,6 +14,9 @@ NUMBER_BYTES = DIGITS + CAPITALS + PUNCTUATION
 SLOT_BYTES = 32
 FEWEST_SLOTS = 1
 MOST_SLOTS = 255
+
+# A call and the next one mostly look at the same register; so many verdicts are remembered.
+REMEMBERED = 8
 
 
 def good_number(number):
@@ -71,6 +76,12 @@ def no_number_twice(slots):
 
 def sound(register):
     """Whether a register of right length is sound."""
+    return remembered_verdict(bytes(register))
+
+
+@lru_cache(maxsize=REMEMBERED)
+def remembered_verdict(register):
+    """Whether this register is sound."""
     slots = slots_of(register)
     return (all(holds_good_number(slot) for slot in slots if used(slot))
             and used_slots_come_first(slots)

@@ -79,7 +79,7 @@ def register_lengths():
     """Register lengths around one slot, two slots and the most slots."""
     numbers = [b"A", b"B"]
     for length in (0, 1, 31, 32, 33, 63, 64, 65):
-        register = (slot_for(b"A") + slot_for(b"B") + bytes(32))[:length]
+        register = filled(numbers, 3)[:length]
         for letter in "pln":
             yield Request(letter, 1, R=register, I=b"A", note="register of %d bytes" % length)
     longest = MOST_SLOTS * SLOT_BYTES
@@ -215,14 +215,15 @@ def damaged_register(chance, register):
         length = changed[start]
         changed[start] = chance.pick((0, 1, (length + 1) % 256, (length - 1) % 256, 24, 25, 255))
     elif way == 2:
-        held, changed[start:start + 32] = changed[start:start + 32], changed[other:other + 32]
-        changed[other:other + 32] = held
+        held = changed[start:start + SLOT_BYTES]
+        changed[start:start + SLOT_BYTES] = changed[other:other + SLOT_BYTES]
+        changed[other:other + SLOT_BYTES] = held
     elif way == 3:
         changed[start:start + SLOT_BYTES] = changed[other:other + SLOT_BYTES]
     elif way == 4:
         changed[start:start + SLOT_BYTES] = bytes(SLOT_BYTES)
     elif way == 5:
-        changed[start + chance.between(1, 31)] = chance.pick(EDGE_BYTES)
+        changed[start + chance.between(1, SLOT_BYTES - 1)] = chance.pick(EDGE_BYTES)
     elif way == 6:
         changed = changed[:chance.below(len(changed) + 1)]
     else:

@@ -18,11 +18,17 @@ USES = {
     "c": "RNL", "W": "RNLP", "C": "RNLP", "s": "RNO", "r": "RNI",
 }
 
+# The calls that use argument A; none uses B yet.
+USES_A = "nk"
+
 # The calls with the most ways to go wrong are made more often.
 OFTEN = "kdWCr"
 
 # Bytes outside the printable ones, tried as letters.
 OTHER_LETTERS = bytes([0, 1, 10, 13, 31, 127, 128, 255])
+
+# How many elements of a block that is too large are really sent.
+MOST_SENT = 131_072
 
 
 def limits(letters):
@@ -70,8 +76,9 @@ def by_chance(letters, seed, count):
         for name in REQUEST_BLOCKS:
             if name not in USES[letter] and not request.blocks[name] and chance.one_in(2):
                 request.blocks[name] = some_block(chance, name)
-        if chance.one_in(2):
-            request.b = chance.some_words(1)[0]
+        if letter not in USES_A:
+            request.a = chance.some_words(1)[0]
+        request.b = chance.some_words(1)[0]
         yield request
 
 
@@ -96,12 +103,12 @@ def broken(letters):
 
 
 def oversize(letter, name, count):
-    """A request whose one block announces so many elements, with as many as fit a page."""
+    """A request whose one block announces so many elements, and sends them up to a limit."""
     parts = [REQUEST_HEAD.pack(letter.encode("latin-1"), 0, 0)]
     for block in REQUEST_BLOCKS:
         parts.append(COUNT.pack(count if block == name else 0))
         if block == name:
-            parts.append(bytes(min(count, 1 << 17) * (2 if name in WORD_BLOCKS else 1)))
+            parts.append(bytes(min(count, MOST_SENT) * (2 if name in WORD_BLOCKS else 1)))
     return b"".join(parts)
 
 

@@ -5,7 +5,7 @@ import functools
 from . import index, nodes, sheet
 from .frame import ROOM, Request
 from .index_requests import (
-    BEFORE, LARGE_KINDS, Stock, damaged_table, large_table, parts_register, some_tables, table)
+    LARGE_KINDS, Stock, damaged_table, large_table, parts_register, some_tables, table)
 from .kits import lines_of
 from .nodes import MOST_NODES, NODE_WORDS
 from .register import LONGEST_NUMBER, MOST_SLOTS, SLOT_BYTES, filled, numbers_of
@@ -285,10 +285,10 @@ class Maker:
         """A sheet to write, mostly with about the room that it needs."""
         chance = self.chance
         register, words, kits, _ = some_tables(chance, self.stock)
-        size = len(sheet.written([], kits)) + sum(register[::SLOT_BYTES]) + len(register) // 32
+        size = len(sheet.written(numbers_of(register), kits))
         room = chance.pick((0, size - 1, size, size, size + 1, size + 9, chance.below(size + 20)))
-        return Request("s", R=register, N=words, O=chance.some_bytes(min(room, 400)) + b"\x11" * max(
-            0, min(room, ROOM["O"]) - 400))
+        old = chance.some_bytes(chance.between(100, 200)) * (1 + room // 100)
+        return Request("s", R=register, N=words, O=old[:min(room, ROOM["O"])])
 
     def reading(self):
         """A sheet to read, whole or altered, into tables of about the room that it needs."""
