@@ -16,8 +16,15 @@ use ground::wide16;
 use libc::STDIN_FILENO;
 use libc::STDOUT_FILENO;
 
-// The bytes of a request in front of its words.
+// The words that a request may have: 4,096 nodes and a few words more. Its bytes in front of them, and theirs.
+const ROOM: usize = 24600;
+
 const HEAD: usize = 8;
+
+const BYTES: usize = 49200;
+
+// The bytes of an answer.
+const ANSWER: usize = 13;
 
 const MOST_REQUESTS: usize = 100000;
 
@@ -26,7 +33,7 @@ fn two(high: u8, low: u8) -> u16 {
 }
 
 // Sets a number down in four bytes; it is below 2^24, and what was there is 0.
-fn put(out: &mut [u8; 13], at: usize, x: usize)
+fn put(out: &mut [u8; ANSWER], at: usize, x: usize)
     requires { ⌜ at + 4 ≤ 13 ⌝ }
 {
     out[at + 1] = (x / 65536 % 256) as u8;
@@ -52,8 +59,8 @@ fn sound_for(nodes: &[u16], first: u16, last: u16) -> usize
 }
 
 // What is answered of a table.
-fn answer(nodes: &[u16], first: u16, last: u16) -> [u8; 13] {
-    let mut out = [0u8; 13];
+fn answer(nodes: &[u16], first: u16, last: u16) -> [u8; ANSWER] {
+    let mut out = [0u8; ANSWER];
     if !nodes::nodes_length_ok(nodes) {
         return out;
     }
@@ -89,7 +96,7 @@ fn broken() -> bool {
 
 // The answer to a request whose words are these bytes.
 fn reply(bytes: &[u8], first: u16, last: u16) -> bool {
-    let mut words = [0u16; 24600];
+    let mut words = [0u16; ROOM];
     let count = load(&mut words, bytes);
     let out = answer(&words[..count], first, last);
     io::write_all(STDOUT_FILENO, &out)
@@ -106,7 +113,7 @@ fn take_words(bytes: &mut [u8], first: u16, last: u16) -> bool {
 
 // One request, in the room lent for its bytes; whether there is more.
 fn step(bytes: &mut [u8]) -> bool {
-    let mut head = [0u8; 8];
+    let mut head = [0u8; HEAD];
     let got = io::read_full(STDIN_FILENO, &mut head);
     if got == 0 {
         return false;
@@ -140,6 +147,6 @@ fn run(bytes: &mut [u8]) {
 }
 
 fn main() {
-    let mut bytes = [0u8; 49200];
+    let mut bytes = [0u8; BYTES];
     run(&mut bytes);
 }
