@@ -1,0 +1,2 @@
+-- What the probe's contracts cite.
+pub mod Replies
