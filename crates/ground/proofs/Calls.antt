@@ -5,13 +5,13 @@ use mathlib.Core.Bool.{Bool, true, false, cond}
 use mathlib.Core.List.{List, [], _∷_}
 use Prim.Native.Nat.{ℕ}
 use native.Mathlib.Omega.{arith}
-use Rattle.ground.specs.Calls.{Case, Plan, Reply, refused, decide, answer, leaves, memory, Promise, Given, here, later}
+use Rattle.ground.specs.Calls.{Case, Plan, Reply, done, refused, decide, answer, leaves, memory, Promise, Given, here, later}
 
 -- The pinned law: any two answers and memories that meet a promise are the same.
 pub pinned : {A : Type 0} {p : Plan A} {old : A} {r s : Reply} {m w : A} → Promise p old r m → Promise p old s w → (r ≡ s) × (m ≡ w)
 pinned a b = (a .answers ∙ sym (b .answers), a .lent ∙ sym (b .lent))
 
-leaves-refused : {A : Type 0} (r : Reply) (n v : ℕ) (old new : A) → r ≡ refused n v → leaves r old new ≡ old
+pub leaves-refused : {A : Type 0} (r : Reply) (n v : ℕ) (old new : A) → r ≡ refused n v → leaves r old new ≡ old
 unfolding leaves
 leaves-refused r n v old new e = rw e
 
@@ -19,6 +19,27 @@ leaves-refused r n v old new e = rw e
 pub refusal-keeps : {A : Type 0} (p : Plan A) (m : A) (n v : ℕ) → answer p ≡ refused n v → memory p m ≡ m
 unfolding memory
 refusal-keeps p m n v e = leaves-refused (answer p) n v m (p .after) e
+
+-- What a function has to show of a refused call, and of one that is done.
+pub promise-refused : {A : Type 0} (p : Plan A) (old : A) (n v : ℕ) → answer p ≡ refused n v → Promise p old (refused n v) old
+promise-refused p old n v e = record { answers = sym e; lent = sym (refusal-keeps p old n v e) }
+
+pub leaves-done : {A : Type 0} (r : Reply) (v : ℕ) (old new : A) → r ≡ done v → leaves r old new ≡ new
+unfolding leaves
+leaves-done r v old new e = rw e
+
+pub promise-done : {A : Type 0} (p : Plan A) (old : A) (v : ℕ) (m : A) → answer p ≡ done v → m ≡ p .after → Promise p old (done v) m
+unfolding memory
+promise-done p old v m e h = record { answers = sym e; lent = h ∙ sym (leaves-done (answer p) v old (p .after) e) }
+
+-- A call that is done was not given its first refusal, nor any of the others.
+pub done-passes : (c : Case) (cs : List Case) (v w : ℕ) → decide (c ∷ cs) v ≡ done w → (c .test ≡ false) × (decide cs v ≡ done w)
+unfolding decide
+done-passes c cs v w = go (c .test)
+  where
+    go : (b : Bool) → cond b (refused (c .number) (c .value)) (decide cs v) ≡ done w → (b ≡ false) × (decide cs v ≡ done w)
+    go true e = absurd (let z : _≡_ {A = ℕ} 0 1 = cc in omega arith)
+    go false e = (refl, e)
 
 given-refuses : (cs : List Case) (w n v : ℕ) → Given n v cs → decide cs w ≡ refused n v
 unfolding decide
