@@ -1,2 +1,2 @@
--- What the probe's contracts cite.
+-- What the contracts of the probe's replies cite.
 pub mod Replies

@@ -1,14 +1,15 @@
-// The letters: each makes one call on the memory that it is lent.
+// The letters: each makes one call, on what it needs of the memory lent. A new letter is a line of `call`.
 use crate::reading::Request;
-use register::look_up;
-use register::register_number;
-use register::show_answer;
 use crate::replies::Reply;
 use crate::replies::looked_reply;
 use crate::replies::registered_reply;
 use crate::replies::shown_reply;
+use register::look_up;
+use register::register_number;
+use register::show;
+use register::show_answer;
 
-// A number, a value, and the second and third number of a call that has them.
+// A reply, and the second and third number of a call that has them.
 pub struct Answer {
     pub number: u8,
     pub value: u32,
@@ -50,4 +51,12 @@ pub fn call(
         b'n' => answers(shown_reply(show_answer(reg, ask.a))),
         _ => Called::Unknown,
     }
+}
+
+// What comes back as the output: for the calls that show a number, the stretch shown.
+pub fn shown<'a>(ask: Request, reg: &'a [u8], output: &'a [u8]) -> &'a [u8] {
+    if ask.letter == b'n' {
+        return show(reg, ask.a);
+    }
+    output
 }

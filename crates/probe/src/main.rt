@@ -1,8 +1,15 @@
-// The probe: every call of the catalogue over a pipe. Each request on standard input carries all the memory that its call
-// is lent, and each answer on standard output carries it back as it stands after the call. Nothing is kept in between.
+// The probe: every call of the catalogue over a pipe, so that a program in any language can compare every byte.
+//
+// A request is the call's letter, two arguments of two bytes, and the blocks R M N L I P Q O K D: all the memory that the
+// call is lent. A block is the count of its elements in four bytes, and then the elements: bytes in R, M, I and O, words of
+// two bytes in the others. An answer is its number in a byte, its value and two more numbers in four bytes each, and the
+// blocks R M N P Q O K D as they stand after the call. Every number has the high byte first. Nothing is kept from one request
+// to the next. A broken request, one that is cut short, has an unknown letter or a block larger than its room, is answered by
+// the one byte 255 and ends the program.
 ghost use Prim.Native.Nat.{_<_};
 
 mod calls;
+mod numbers;
 mod reading;
 mod replies;
 mod writing;
@@ -17,44 +24,51 @@ use reading::read_words;
 use writing::write_answer;
 use writing::write_broken;
 
-// How many elements of each block there is room for.
+// How many elements of each block there is room for: R and M, N, L, I, P and Q, O, K, D.
 const REGISTER_ROOM: usize = 8200;
+
 const NODES_ROOM: usize = 28700;
+
 const LIST_ROOM: usize = 8200;
+
 const INPUT_ROOM: usize = 65536;
+
 const PLACES_ROOM: usize = 4200;
+
 const OUTPUT_ROOM: usize = 65536;
+
 const MARK_ROOM: usize = 66;
+
 const DRAWERS_ROOM: usize = 1024;
 
-// Makes the call on the blocks of a request, and writes its answer: whether to go on.
-fn answer(
+// Makes the call, lent the blocks of its request, and writes the answer: whether to go on.
+fn answer_request(
     ask: Request,
     whole: bool,
-    reg: &mut [u8],
-    makers: &mut [u8],
-    nodes: &mut [u16],
-    list: &[u16],
-    input: &[u8],
-    places: &mut [u16],
-    seconds: &mut [u16],
-    output: &mut [u8],
-    mark: &mut [u16],
-    drawers: &mut [u16],
+    r: &mut [u8],
+    m: &mut [u8],
+    n: &mut [u16],
+    l: &[u16],
+    i: &[u8],
+    p: &mut [u16],
+    q: &mut [u16],
+    o: &mut [u8],
+    k: &mut [u16],
+    d: &mut [u16],
 ) -> bool {
     if !whole {
         write_broken();
         return false;
     }
-    let Called::Answers(a) = call(ask, reg, makers, nodes, list, input, places, seconds, output, mark, drawers) else {
+    let Called::Answers(answer) = call(ask, r, m, n, l, i, p, q, o, k, d) else {
         write_broken();
         return false;
     };
-    write_answer(ask, a, reg, makers, nodes, places, seconds, output, mark, drawers);
+    write_answer(ask, answer, r, m, n, p, q, o, k, d);
     true
 }
 
-// Reads and answers the next request: whether to go on.
+// Reads the next request and answers it: whether to go on.
 fn serve_one(
     reg: &mut [u8],
     makers: &mut [u8],
@@ -81,10 +95,10 @@ fn serve_one(
     let o = read_bytes(output, &mut whole);
     let k = read_words(mark, &mut whole);
     let d = read_words(drawers, &mut whole);
-    answer(ask, whole, r, m, n, l, i, p, q, o, k, d)
+    answer_request(ask, whole, r, m, n, l, i, p, q, o, k, d)
 }
 
-// A proved loop has to end, and nothing says that the input does: the turns are counted down from a number that no run uses up.
+// A proved loop has to end, and nothing says that the input does: the turns fall, from a number that no run uses up.
 fn turns_left(turns: u64, go: bool) -> u64
     requires { ⌜ 0 < turns ⌝ }
     ensures { λ r. ⌜ r < turns ⌝ }

@@ -1,14 +1,9 @@
-use mathlib.Core.Path.{_≡_, _∙_, sym}
-use Prim.Native.Nat.{_≤_, _<_, _*_, _-_, _+_}
-use native.Mathlib.Omega.{arith}
+use mathlib.Core.Path.{_≡_}
+use Prim.Native.Nat.{_≤_, _-_}
 use borrow.Author.Needs.{needs}
-use lib.ListN.{length, length-set, length-take, length-append, length-drop}
-use lib.Seq.{length-take-le, length-front}
+use lib.ListN.{length}
 use Rattle.probe.proofs.reading.fill_words.Statement.{statement}
 use Rattle.probe.proofs.reading.fill_words.Tie as tie
-use Rattle.probe.proofs.reading.fill_words.Reads as reads
-use Rattle.probe.proofs.reading.fill_words.Lts as lts
-use Rattle.probe.proofs.reading.read_some.Reads as read-some-reads
 
 abbrev Inv-loop : tie.InvT-loop
 Inv-loop room₀ n done₀ room done = (length room ≡ length room₀) × (done ≤ n) × (n ≤ length room₀)
@@ -16,35 +11,27 @@ Inv-loop room₀ n done₀ room done = (length room ≡ length room₀) × (done
 abbrev μ-loop : tie.MeasureT-loop
 μ-loop room₀ n done₀ room done = n - done
 
--- src/reading.rt:127:5
 loop-holds : tie.Need-loop-holds Inv-loop μ-loop
 loop-holds c = search needs
 
--- src/reading.rt:128:13
 read-some-requires : tie.Need-read-some-requires Inv-loop μ-loop
 read-some-requires c κs = search needs
 
--- src/reading.rt:130:13
 same-length : tie.Need-same-length Inv-loop μ-loop
 same-length c = search needs
 
--- src/reading.rt:130:13
 returns : tie.Need-returns Inv-loop μ-loop
 returns c = search needs
 
--- src/reading.rt:127:5
 loop-less : tie.Need-loop-less Inv-loop μ-loop
 loop-less c = search needs
 
--- src/reading.rt:127:5
 loop-again : tie.Need-loop-again Inv-loop μ-loop
 loop-again c = search needs
 
--- src/reading.rt:123:1
 same-length-2 : tie.Need-same-length-2 Inv-loop μ-loop
 same-length-2 c = search needs
 
--- src/reading.rt:123:1
 returns-2 : tie.Need-returns-2 Inv-loop μ-loop
 returns-2 c = search needs
 
