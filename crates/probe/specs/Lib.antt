@@ -1,0 +1,2 @@
+-- What the contracts of the probe's replies cite.
+pub mod Replies
