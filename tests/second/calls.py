@@ -1,0 +1,254 @@
+"""The answer to a request: every call with its refusals in document 01's order."""
+
+from . import index, kits, nodes, questions, register, sheet
+from .frame import ANSWER_BLOCKS, BROKEN_ANSWER, Answer, Broken, unpack_request
+from .refusals import (
+    ALREADY_HELD, BAD_NUMBER, DONE, NO_ROOM, NOT_HELD, NOT_SOUND, SHEET_AT_FAULT, TAG_TAKEN,
+    TAG_ZERO, TOO_MANY_UNITS, WRONG_LENGTH, Refusal)
+
+# The letters that the probe answers today.
+PROBE_LETTERS = "pln"
+
+
+def check_register(lent):
+    """The order "1 register, .. 2 register" where only the register is lent."""
+    if not register.right_length(lent["R"]):
+        raise Refusal(WRONG_LENGTH)
+    if not register.sound(lent["R"]):
+        raise Refusal(NOT_SOUND)
+
+
+def check_number(number):
+    """First in "For numbers: 3, then 9 or 11, then 12"."""
+    if not register.good_number(number):
+        raise Refusal(BAD_NUMBER)
+
+
+def register_number(request):
+    """Register a number: its place. After 3 come 9 and 12."""
+    lent = request.blocks
+    check_register(lent)
+    check_number(lent["I"])
+    place = register.place_of(lent["R"], lent["I"])
+    if place:
+        raise Refusal(ALREADY_HELD, place)
+    added = register.with_number_added(lent["R"], lent["I"])
+    if added is None:
+        # "registering finds no free slot (value 1)"
+        raise Refusal(NO_ROOM, 1)
+    return register.place_of(added, lent["I"]), {"R": added}
+
+
+def look_up_number(request):
+    """Look up a number: its place. After 3 comes 11."""
+    lent = request.blocks
+    check_register(lent)
+    check_number(lent["I"])
+    place = register.place_of(lent["R"], lent["I"])
+    if not place:
+        raise Refusal(NOT_HELD)
+    return place, {}
+
+
+def show_number(request):
+    """Show the number at a place: the very stretch of the register that holds it."""
+    lent = request.blocks
+    check_register(lent)
+    if not 1 <= request.a <= len(register.numbers_of(lent["R"])):
+        raise Refusal(NOT_HELD)
+    return 0, {"O": register.stretch_at(lent["R"], request.a)}
+
+
+def check_lengths(lent):
+    """The order "1 register, 1 nodes"."""
+    if not register.right_length(lent["R"]):
+        raise Refusal(WRONG_LENGTH)
+    if not nodes.right_length(lent["N"]):
+        raise Refusal(WRONG_LENGTH)
+
+
+def check_tables(lent):
+    """The order "1 register, 1 nodes, 2 register, 2 nodes"; gives the number of parts."""
+    check_lengths(lent)
+    if not register.sound(lent["R"]):
+        raise Refusal(NOT_SOUND)
+    parts = len(register.numbers_of(lent["R"]))
+    if not nodes.sound(lent["N"], parts):
+        raise Refusal(NOT_SOUND)
+    return parts
+
+
+def empty_tables(request):
+    """Empty both tables: zeros. "Emptying and reading give 1 but never 2"."""
+    lent = request.blocks
+    check_lengths(lent)
+    return 0, {"R": bytes(len(lent["R"])), "N": [0] * len(lent["N"])}
+
+
+def insert_kit(request):
+    """Insert list and tag: nodes newly taken. After the tables come 8, 4 to 6, 7, 9, 10, 12."""
+    lent, tag = request.blocks, request.a
+    parts = check_tables(lent)
+    if tag == 0:
+        raise Refusal(TAG_ZERO)
+    row = kits.units(kits.checked_lines(lent["L"], parts))
+    if len(row) > kits.MOST_UNITS:
+        raise Refusal(TOO_MANY_UNITS)
+    held = nodes.held_kits(lent["N"])
+    if row in held:
+        raise Refusal(ALREADY_HELD, held[row])
+    if tag in held.values():
+        raise Refusal(TAG_TAKEN)
+    needed, free = index.missing_nodes(lent["N"], row), index.free_count(lent["N"])
+    if needed > free:
+        # "insertion needs more nodes than are free (value: how many too few)"
+        raise Refusal(NO_ROOM, needed - free)
+    return needed, {"N": index.inserted(lent["N"], row, tag)}
+
+
+def held_row(request):
+    """The row and tag of the held kit that a list names; after the list checks comes 11."""
+    lent = request.blocks
+    parts = check_tables(lent)
+    row = kits.units(kits.checked_lines(lent["L"], parts))
+    held = nodes.held_kits(lent["N"])
+    if row not in held:
+        raise Refusal(NOT_HELD)
+    return row, held[row]
+
+
+def find_kit(request):
+    """Find a list: its tag."""
+    _, tag = held_row(request)
+    return tag, {}
+
+
+def delete_kit(request):
+    """Delete a list: its tag."""
+    row, tag = held_row(request)
+    return tag, {"N": index.deleted(request.blocks["N"], row)}
+
+
+def answering_tags(request, question):
+    """The tags of all kits that answer this question on the lent list, in listing order."""
+    lent = request.blocks
+    parts = check_tables(lent)
+    row = kits.units(kits.checked_lines(lent["L"], parts))
+    return question(nodes.held_kits(lent["N"]), row)
+
+
+def first_tag(tags):
+    """The tag of the first such kit in listing order, or 0."""
+    return tags[0] if tags else 0
+
+
+def any_within(request):
+    """Any kit within the bin."""
+    return first_tag(answering_tags(request, questions.within)), {}
+
+
+def any_containing(request):
+    """Any kit containing the list."""
+    return first_tag(answering_tags(request, questions.containing)), {}
+
+
+def at_start(output, contents):
+    """The output with these contents at its start; "what lies behind .. keeps its contents"."""
+    if len(contents) > len(output):
+        # "a listing or sheet exceeds its output (value: places or bytes needed in all)"
+        raise Refusal(NO_ROOM, len(contents))
+    return contents + output[len(contents):]
+
+
+def all_within(request):
+    """All kits within the bin: their tags; the value is how many."""
+    tags = answering_tags(request, questions.within)
+    return len(tags), {"P": at_start(request.blocks["P"], tags)}
+
+
+def all_containing(request):
+    """All kits containing the list: their tags; the value is how many."""
+    tags = answering_tags(request, questions.containing)
+    return len(tags), {"P": at_start(request.blocks["P"], tags)}
+
+
+def write_sheet(request):
+    """Write the sheet at the start of a lent output: bytes written."""
+    lent = request.blocks
+    check_tables(lent)
+    written = sheet.written(register.numbers_of(lent["R"]), nodes.held_kits(lent["N"]))
+    return len(written), {"O": at_start(lent["O"], written)}
+
+
+def read_sheet(request):
+    """Read a sheet: kits read. The order is 1 for each table, then 13, then 12.
+
+    "Reading leaves the tables as if emptied, then filled in sheet order."
+    """
+    lent = request.blocks
+    check_lengths(lent)
+    try:
+        numbers, read = sheet.read(lent["I"])
+    except sheet.SheetFault as fault:
+        raise Refusal(SHEET_AT_FAULT, fault.offset) from fault
+    slot_count = len(lent["R"]) // register.SLOT_BYTES
+    node_count = len(lent["N"]) // nodes.NODE_WORDS
+    # "reading needs more slots (value: slots), or else more nodes counting the root (value: nodes)"
+    if len(numbers) > slot_count:
+        raise Refusal(NO_ROOM, len(numbers))
+    needed = sheet.nodes_needed(read)
+    if needed > node_count:
+        raise Refusal(NO_ROOM, needed)
+    return len(read), {"R": register.filled(numbers, slot_count),
+                       "N": index.filled(node_count, read)}
+
+
+# Each call gives its value and the blocks that it changes, or raises a Refusal.
+CALLS = {
+    "e": empty_tables,
+    "p": register_number,
+    "l": look_up_number,
+    "n": show_number,
+    "k": insert_kit,
+    "f": find_kit,
+    "d": delete_kit,
+    "w": any_within,
+    "c": any_containing,
+    "W": all_within,
+    "C": all_containing,
+    "s": write_sheet,
+    "r": read_sheet,
+}
+
+# The calls that give a stretch: the probe sends it back as O, "an empty stretch where refused".
+SHOWING = "n"
+
+
+def answer(request):
+    """The answer to a request whose letter is in the table."""
+    blocks = {name: request.blocks[name] for name in ANSWER_BLOCKS}
+    try:
+        value, changed = CALLS[request.letter](request)
+    except Refusal as refusal:
+        # "Every refusal leaves all lent memory untouched."
+        if request.letter in SHOWING:
+            blocks["O"] = b""
+        return Answer(refusal.number, refusal.value, blocks)
+    blocks.update(changed)
+    return Answer(DONE, value, blocks)
+
+
+def answer_stream(data, letters=PROBE_LETTERS):
+    """All that the probe writes when this is its whole input."""
+    written = []
+    offset = 0
+    while offset < len(data):
+        try:
+            if data[offset:offset + 1].decode("latin-1") not in letters:
+                raise Broken("unknown letter")
+            request, offset = unpack_request(data, offset)
+        except Broken:
+            written.append(BROKEN_ANSWER)
+            break
+        written.append(answer(request).pack())
+    return b"".join(written)

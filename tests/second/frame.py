@@ -1,0 +1,131 @@
+"""A request to the probe and its answer: the fields, the blocks, and their bytes.
+
+All numbers have the high byte first.
+"""
+
+import struct
+
+from .refusals import DONE
+
+# The blocks in their order, and those whose elements are 16-bit numbers.
+REQUEST_BLOCKS = "RMNLIPQOKD"
+ANSWER_BLOCKS = "RMNPQOKD"
+WORD_BLOCKS = "NLPQKD"
+
+# How many elements of each block the probe has room for.
+ROOM = {
+    "R": 8200, "M": 8200, "N": 28700, "L": 8200, "I": 65536,
+    "P": 4200, "Q": 4200, "O": 65536, "K": 66, "D": 1024,
+}
+
+# "the program writes the one byte 255 and ends"
+BROKEN_ANSWER = b"\xff"
+
+REQUEST_HEAD = struct.Struct(">cHH")
+ANSWER_HEAD = struct.Struct(">BIII")
+COUNT = struct.Struct(">I")
+
+
+class Broken(Exception):
+    """A request or answer that cannot be read from its bytes."""
+
+
+class Request:
+    """One call: its letter, two arguments, and all the memory that it is lent.
+
+    A block of bytes is held as bytes, a block of 16-bit numbers as a list.
+    `note` says what the request is meant to try; it is not sent.
+    """
+
+    def __init__(self, letter, a=0, b=0, note="", **blocks):
+        self.letter = letter
+        self.a = a
+        self.b = b
+        self.note = note
+        self.blocks = {name: fitting(name, blocks.pop(name, ())) for name in REQUEST_BLOCKS}
+        if blocks:
+            raise ValueError("no such block: " + " ".join(blocks))
+
+    def pack(self):
+        """The request's bytes."""
+        parts = [REQUEST_HEAD.pack(self.letter.encode("latin-1"), self.a, self.b)]
+        parts += [pack_block(name, self.blocks[name]) for name in REQUEST_BLOCKS]
+        return b"".join(parts)
+
+
+class Answer:
+    """What a call gives back: number, value, a second and third number, the memory."""
+
+    def __init__(self, number, value, blocks, second=0, third=0):
+        self.number = number
+        self.value = value
+        self.second = second
+        self.third = third
+        self.blocks = blocks
+
+    def done(self):
+        """Whether the call was not refused."""
+        return self.number == DONE
+
+    def pack(self):
+        """The answer's bytes."""
+        parts = [ANSWER_HEAD.pack(self.number, self.value, self.second, self.third)]
+        parts += [pack_block(name, self.blocks[name]) for name in ANSWER_BLOCKS]
+        return b"".join(parts)
+
+
+def fitting(name, elements):
+    """The elements in the form in which this block is held."""
+    if name in WORD_BLOCKS:
+        return list(elements)
+    return bytes(elements)
+
+
+def pack_block(name, elements):
+    """A block: the count of its elements in four bytes, then the elements."""
+    count = COUNT.pack(len(elements))
+    if name in WORD_BLOCKS:
+        return count + struct.pack(">%dH" % len(elements), *elements)
+    return count + bytes(elements)
+
+
+def unpack_block(name, data, offset):
+    """The block at this offset, and the offset behind it."""
+    if offset + COUNT.size > len(data):
+        raise Broken("cut short in the count of block " + name)
+    (count,) = COUNT.unpack_from(data, offset)
+    offset += COUNT.size
+    if count > ROOM[name]:
+        raise Broken("block %s of %d elements is larger than its room" % (name, count))
+    size = count * (2 if name in WORD_BLOCKS else 1)
+    if offset + size > len(data):
+        raise Broken("cut short in block " + name)
+    if name in WORD_BLOCKS:
+        elements = list(struct.unpack_from(">%dH" % count, data, offset))
+    else:
+        elements = bytes(data[offset:offset + size])
+    return elements, offset + size
+
+
+def unpack_request(data, offset):
+    """The request at this offset, and the offset behind it."""
+    if offset + REQUEST_HEAD.size > len(data):
+        raise Broken("cut short before the blocks")
+    letter, a, b = REQUEST_HEAD.unpack_from(data, offset)
+    offset += REQUEST_HEAD.size
+    blocks = {}
+    for name in REQUEST_BLOCKS:
+        blocks[name], offset = unpack_block(name, data, offset)
+    return Request(letter.decode("latin-1"), a, b, **blocks), offset
+
+
+def unpack_answer(data, offset):
+    """The answer at this offset, and the offset behind it."""
+    if offset + ANSWER_HEAD.size > len(data):
+        raise Broken("cut short before the blocks")
+    number, value, second, third = ANSWER_HEAD.unpack_from(data, offset)
+    offset += ANSWER_HEAD.size
+    blocks = {}
+    for name in ANSWER_BLOCKS:
+        blocks[name], offset = unpack_block(name, data, offset)
+    return Answer(number, value, blocks, second, third), offset

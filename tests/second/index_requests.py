@@ -1,0 +1,704 @@
+"""Requests that try the index: insertion, finding, deletion, the questions, and soundness."""
+
+import functools
+
+from . import index, nodes
+from .chance import Chance
+from .frame import Request
+from .kits import MOST_QUANTITY, MOST_UNITS, beginnings, lines_of, units, words_of
+from .nodes import FREE, MOST_NODES, NODE_WORDS, ROOT, Node
+from .register import MOST_SLOTS, filled, numbers_of
+from .register_requests import damaged_register, many_numbers
+
+# The calls that are lent both tables and look at them, and those that take a list.
+TABLE_LETTERS = "kfdwcWCs"
+LIST_LETTERS = "kfdwcWC"
+QUESTION_LETTERS = "wcWC"
+ALL_LETTERS = "e" + TABLE_LETTERS
+
+# Values that a damaged word is often given: limits of depth, quantity, parts and words.
+EDGE_WORDS = [0, 1, 2, 3, 14, 15, 16, 17, 63, 64, 65, 255, 256, 32767, 32768, 65534, 65535]
+
+# Contents of an output before the call, so that what lies behind the answer can be seen.
+BEFORE = [61001, 61002, 61003, 61004, 61005, 61006, 61007, 61008, 61009, 61010, 61011, 61012]
+
+# The longest unit row with few parts: 15 of each of four parts and 4 of a fifth.
+LONGEST_LIST = [1, 15, 2, 15, 3, 15, 4, 15, 5, 4]
+TOO_LONG_LIST = [1, 15, 2, 15, 3, 15, 4, 15, 5, 5]
+
+
+def parts_register(parts, slots=None):
+    """A register with so many parts, and one slot free where no slot count is given."""
+    return filled(many_numbers(parts), parts + 1 if slots is None else slots)
+
+
+def table(node_count, *kits):
+    """A table of so many nodes with these kits (row, tag) inserted in order."""
+    return index.filled(node_count, kits)
+
+
+def raw_path(labels, tag=1, spare=0):
+    """A table whose one path has these labels, set down word by word."""
+    row = [Node(0, 1 if labels else 0, 0, 0, 0, 0 if labels else tag)]
+    for at, label in enumerate(labels, start=1):
+        last = at == len(labels)
+        row.append(Node(at - 1, 0 if last else at + 1, 0, label, at, tag if last else 0))
+    return nodes.words_of(row + [FREE] * spare)
+
+
+def some_output(letter, count=6):
+    """The output that a listing is lent."""
+    return BEFORE[:count] if letter in "WC" else []
+
+
+@functools.lru_cache(maxsize=None)
+def example_words():
+    """A small table with branches, shared beginnings, freed nodes and numbers out of order."""
+    kits = [((2, 3, 3), 50), ((1, 2), 40), ((3,), 60), ((1, 1, 2), 20), ((1,), 10), ((2, 2), 45),
+            ((1, 1), 15), ((), 5)]
+    words = table(12, *kits)
+    words = index.deleted(words, (2, 2))
+    words = index.deleted(words, (3,))
+    return tuple(index.inserted(words, (1, 3), 41))
+
+
+def limits():
+    """Every limit of the node table, of a list and of the calls on kits."""
+    yield from table_lengths()
+    yield from tables_in_order()
+    yield from broken_tables()
+    yield from raw_paths()
+    yield from list_limits()
+    yield from insertions()
+    yield from node_limits()
+    yield from deletions()
+    yield from short_cases()
+    yield from outputs()
+    yield from bins()
+
+
+def table_lengths():
+    """Node tables around one and two nodes; the longest ones are among the large requests."""
+    register = parts_register(2)
+    for length in (0, 1, 5, 6, 7, 11, 12, 13):
+        for letter in ALL_LETTERS:
+            yield Request(letter, 7, R=register, N=[0] * length, L=[1, 1], P=some_output(letter),
+                          O=b"before the sheet", note="node table of %d words" % length)
+
+
+def tables_in_order():
+    """The order "1 register, 1 nodes, 2 register, 2 nodes", and 8 and 4 behind them."""
+    registers = {"right": parts_register(2), "wrong length": bytes(33), "empty": b"",
+                 "not sound": bytes(32) + parts_register(1, 1)}
+    tables = {"right": [0] * 12, "wrong length": [0] * 13, "empty": [],
+              "not sound": [0, 0, 0, 0, 0, 0, 0, 0, 0, 1, 1, 1]}
+    for register_note, register in registers.items():
+        for table_note, words in tables.items():
+            for letter in ALL_LETTERS:
+                for tag, bad in ((0, [1]), (3, [1, 0]), (4, [2, 1])):
+                    yield Request(letter, tag, R=register, N=words, L=bad, P=some_output(letter),
+                                  O=b"a sheet goes here at the start of this output and more",
+                                  note="register %s, nodes %s" % (register_note, table_note))
+
+
+def broken_tables():
+    """One small table for each way in which a condition of soundness alone is broken.
+
+    A node is parent, first child, next sibling, label, depth, tag.
+    """
+    two = parts_register(2)
+    root, leaf = Node(0, 1, 0, 0, 0, 0), Node(0, 0, 0, 1, 1, 9)
+    tables = {
+        "the root has a parent": [Node(1, 1, 0, 0, 0, 0), leaf],
+        "the root alone has a parent": [Node(1, 0, 0, 0, 0, 0), FREE],
+        "the root alone has a sibling": [Node(0, 0, 1, 0, 0, 0), FREE],
+        "the root has a sibling": [Node(0, 1, 1, 0, 0, 0), leaf],
+        "the root alone has a label": [Node(0, 0, 0, 1, 0, 0), FREE],
+        "the root alone has a depth": [Node(0, 0, 0, 0, 1, 0), FREE],
+        "all depths one too high": [Node(0, 1, 0, 0, 1, 0), leaf._replace(depth=2)],
+        "the root's child is free": [root, FREE],
+        "the root's child is past the end": [root._replace(first_child=2), FREE],
+        "a node names itself as parent": [root, leaf._replace(parent=1)],
+        "a node is its own child": [root, leaf._replace(first_child=1)],
+        "a node is its own sibling": [root, leaf._replace(next_sibling=1)],
+        "a free node with a tag": [Node(0, 0, 0, 0, 0, 0), Node(0, 0, 0, 0, 0, 4)],
+        "a free node with a label": [Node(0, 0, 0, 0, 0, 0), Node(0, 0, 0, 1, 0, 0)],
+        "a node on no chain": [Node(0, 0, 0, 0, 0, 0), leaf],
+        "a second node on no chain": [root, leaf, leaf._replace(label=2, tag=8)],
+        "a leaf without a tag": [root, leaf._replace(tag=0)],
+        "a tag twice": [root, leaf._replace(next_sibling=2), leaf._replace(label=2)],
+        "the root's tag twice": [root._replace(tag=9), leaf],
+        "siblings with one label": [root, leaf._replace(next_sibling=2), leaf._replace(tag=8)],
+        "siblings falling": [root, leaf._replace(next_sibling=2, label=2), leaf._replace(tag=8)],
+        "siblings in a ring": [root, leaf._replace(next_sibling=2),
+                               leaf._replace(label=2, tag=8, next_sibling=1)],
+        "a sibling of another parent": [root, leaf._replace(first_child=2, next_sibling=3),
+                                        Node(1, 0, 3, 1, 2, 8), leaf._replace(label=2, tag=7)],
+        "a child of another parent": [root, leaf._replace(next_sibling=2, first_child=3),
+                                      leaf._replace(label=2, tag=8, first_child=3),
+                                      Node(2, 0, 0, 2, 2, 7)],
+        "a child that is its parent's sibling": [root, leaf._replace(first_child=2,
+                                                                     next_sibling=2),
+                                                 leaf._replace(label=2, tag=8)],
+        "a path back to its start": [root, leaf._replace(first_child=2),
+                                     Node(1, 1, 0, 1, 2, 8)],
+        "two nodes that name each other": [Node(0, 0, 0, 0, 0, 3), Node(2, 2, 0, 1, 1, 9),
+                                           Node(1, 1, 0, 1, 2, 8)],
+        "a depth one too low": [root, leaf._replace(first_child=2), Node(1, 0, 0, 1, 1, 8)],
+        "a depth one too high": [root, leaf._replace(first_child=2), Node(1, 0, 0, 1, 3, 8)],
+        "a label 0": [root, leaf._replace(label=0)],
+        "a label beyond the parts": [root, leaf._replace(label=3)],
+        "a label below its parent's": [root, leaf._replace(label=2, first_child=2),
+                                       Node(1, 0, 0, 1, 2, 8)],
+        "a parent past the end": [root, leaf._replace(parent=2)],
+        "a sibling past the end": [root, leaf._replace(next_sibling=2)],
+        "a child past the end": [root, leaf._replace(first_child=2)],
+        "a child far past the end": [root, leaf._replace(first_child=65535)],
+        "sound": [root, leaf._replace(next_sibling=2), leaf._replace(label=2, tag=8), FREE],
+    }
+    for note, row in tables.items():
+        for letter in TABLE_LETTERS:
+            yield Request(letter, 6, R=two, N=nodes.words_of(row), L=[2, 1],
+                          P=some_output(letter), O=bytes(60), note=note)
+
+
+def raw_paths():
+    """Paths of 64 and 65 nodes, of 15 and 16 equal labels, and labels at the parts' limit."""
+    five = parts_register(5)
+    paths = {
+        "path of 63": units([(1, 15), (2, 15), (3, 15), (4, 15), (5, 3)]),
+        "path of 64": units([(1, 15), (2, 15), (3, 15), (4, 15), (5, 4)]),
+        "path of 65": units([(1, 15), (2, 15), (3, 15), (4, 15), (5, 5)]),
+        "14 equal labels": (1,) + (2,) * 14 + (3,),
+        "15 equal labels": (1,) + (2,) * 15 + (3,),
+        "16 equal labels": (1,) + (2,) * 16 + (3,),
+        "15 equal labels at the end": (3,) * 15,
+        "16 equal labels at the end": (3,) * 16,
+        "16 equal labels apart, falling": (1, 2) * 16,
+        "the last part": (1, 5),
+        "beyond the last part": (1, 6),
+        "a label 0": (0, 1),
+        "a label 0 below another": (1, 0),
+        "falling labels": (2, 1),
+        "an empty path": (),
+    }
+    for note, row in paths.items():
+        words = raw_path(row, spare=2)
+        listed = words_of(lines_of(row))
+        for letter in TABLE_LETTERS:
+            yield Request(letter, 9, R=five, N=words, L=listed, P=some_output(letter),
+                          O=bytes(90), note=note)
+        yield Request("k", 9, R=five, N=words, L=[5, 1], note=note)
+    # Labels count against the parts registered, not against the slots.
+    for parts, slots in ((0, 3), (1, 3), (2, 3), (3, 3)):
+        for letter in TABLE_LETTERS:
+            yield Request(letter, 9, R=parts_register(parts, slots), N=raw_path((2,)), L=[],
+                          P=some_output(letter), O=bytes(60),
+                          note="label 2 beside %d parts in %d slots" % (parts, slots))
+
+
+def list_limits():
+    """Lists of odd length, and each line's 4, 5 and 6 alone and before one another."""
+    three = parts_register(3, 5)
+    words = table(24, ((1,), 1), ((1, 2), 2), ((2, 3), 3), ((1,) * 15, 4))
+    lists = [
+        [], [1], [0], [9], [1, 1, 2], [0, 0, 0], [1, 1, 1], [9, 9, 9], [1, 0, 2],
+        [0, 1], [0, 0], [1, 1, 0, 1], [1, 1, 0, 0], [1, 1, 1, 1], [2, 1, 1, 1], [1, 1, 2, 1, 2, 1],
+        [1, 1, 3, 1, 2, 1], [3, 1], [4, 1], [5, 1], [6, 1], [255, 1], [256, 1], [257, 1],
+        [65535, 1], [3, 1, 4, 1], [1, 0], [1, 1], [1, 2], [1, 14], [1, 15], [1, 16], [1, 17],
+        [1, 256], [1, 257], [1, 32769], [1, 65535], [4, 0], [4, 16], [0, 16], [1, 0, 1, 1],
+        [1, 0, 4, 1], [1, 16, 0, 1], [4, 1, 1, 0], [1, 1, 4, 1, 2, 1], [1, 1, 2, 0, 4, 1],
+        [4, 1, 4, 1], [2, 1, 4, 1, 3, 1], [2, 1, 3, 0], [1, 1, 2, 16], [2, 1, 3, 1],
+        [1, 15, 2, 15, 3, 15], [1, 1, 2, 1, 3, 1],
+    ]
+    for at, listed in enumerate(lists):
+        for letter in LIST_LETTERS:
+            yield Request(letter, 100 + at, R=three, N=words, L=listed, P=some_output(letter),
+                          note="list %s" % listed)
+        yield Request("k", 0, R=three, N=words, L=listed, note="tag 0 and list %s" % listed)
+    for listed in ([], [1, 1], [1, 0], [0, 0], [1]):
+        for letter in LIST_LETTERS:
+            yield Request(letter, 5, R=parts_register(0, 1), N=[0] * 12, L=listed,
+                          P=some_output(letter), note="no parts, list %s" % listed)
+    five = parts_register(5)
+    for listed in (LONGEST_LIST, TOO_LONG_LIST, [1, 15, 2, 15, 3, 15, 4, 15, 5, 15]):
+        held = table(70, (units(lines_of_words(LONGEST_LIST)), 12))
+        for letter in LIST_LETTERS:
+            for words in ([0] * 6, [0] * 65 * NODE_WORDS, held):
+                yield Request(letter, 12, R=five, N=words, L=listed, P=some_output(letter),
+                              note="%s %d units" % ("insert" if letter == "k" else "ask for",
+                                                    sum(listed[1::2])))
+
+
+def lines_of_words(words):
+    """A good list's lines."""
+    return list(zip(words[0::2], words[1::2]))
+
+
+def insertions():
+    """9 before 10, 10 before 12, chains at their start, middle and end, and beginnings."""
+    four = parts_register(4)
+    words = table(9, ((2,), 20), ((2, 2, 3), 23), ((4,), 40), ((1, 1), 11), ((), 7))
+    tries = [
+        ([2, 1], 20), ([2, 1], 40), ([2, 1], 77), ([], 7), ([], 40), ([3, 1], 20), ([3, 1], 7),
+        ([2, 2], 50), ([1, 1], 51), ([1, 2], 52), ([3, 1], 53), ([1, 1, 2, 1], 54), ([1, 3], 55),
+        ([2, 2, 3, 2], 56), ([2, 2, 3, 1], 57), ([2, 2, 4, 1], 58), ([2, 1, 3, 1], 65535),
+        ([2, 1, 4, 2], 59), ([4, 2], 1), ([4, 1], 2), ([3, 1, 4, 1], 60), ([3, 2, 4, 1], 61),
+        ([3, 1, 4, 2], 62), ([3, 15], 63), ([3, 15], 20), ([1, 15, 2, 15], 64),
+    ]
+    for listed, tag in tries:
+        for room in (7, 8, 9, 10, 30):
+            resized = (words + [0] * 200)[:room * NODE_WORDS]
+            yield Request("k", tag, R=four, N=resized, L=listed,
+                          note="insert %s, tag %d, into a small table" % (listed, tag))
+    example = list(example_words())
+    for listed in ([], [1, 1], [1, 2], [1, 3], [2, 1], [2, 1, 3, 1], [3, 1], [3, 2], [1, 1, 2, 2],
+                   [1, 1, 3, 1], [1, 2, 3, 1], [2, 2], [2, 1, 3, 3], [1, 2, 2, 1, 3, 1]):
+        for tag in (5, 10, 99):
+            yield Request("k", tag, R=parts_register(3), N=example, L=listed,
+                          note="insert %s, tag %d, freed nodes" % (listed, tag))
+
+
+def node_limits():
+    """The last free node and one too few, from a root alone to a path of 64."""
+    five = parts_register(5)
+    for count in (1, 2, 3, 63, 64, 65, 66):
+        for listed in ([], [1, 1], [1, 2], [5, 15], LONGEST_LIST):
+            yield Request("k", 8, R=five, N=[0] * count * NODE_WORDS, L=listed,
+                          note="insert %s among %d nodes" % (listed, count))
+    # A hole in the middle is taken first, and the rest behind.
+    words = table(8, ((1,), 1), ((2,), 2), ((3,), 3), ((4,), 4), ((5,), 5))
+    words = index.deleted(index.deleted(words, (2,)), (4,))
+    for listed in ([2, 1], [2, 2], [2, 3], [2, 4], [2, 5], [5, 2], [1, 1, 2, 2], [4, 9]):
+        yield Request("k", 9, R=five, N=words, L=listed, note="insert %s into holes" % listed)
+
+
+def deletions():
+    """Each kit of a branching table struck out, and lists that are not held."""
+    four = parts_register(4)
+    kits = [((), 1), ((1,), 2), ((1, 2), 3), ((1, 2, 3), 4), ((1, 2, 3, 3), 5), ((1, 4), 6),
+            ((2, 2, 2), 7), ((2, 3), 8), ((3,), 9), ((4, 4, 4, 4), 10)]
+    words = table(20, *kits)
+    rows = [row for row, _ in kits] + [(2,), (2, 2), (4,), (4, 4), (1, 1), (1, 2, 4), (3, 3)]
+    for row in rows:
+        for letter in "fd":
+            yield Request(letter, R=four, N=words, L=words_of(lines_of(row)), note="row %s" % (row,))
+    for first, _ in kits:
+        less = index.deleted(words, first)
+        for row in [()] + [held for held, _ in kits if held and held[:1] == first[:1]]:
+            yield Request("d", R=four, N=less, L=words_of(lines_of(row)),
+                          note="row %s after %s" % (row, first))
+    for row in beginnings([(1, 1, 2), (1, 3), (2, 3, 3)]):
+        for letter in "fd":
+            yield Request(letter, R=parts_register(3), N=example_words(),
+                          L=words_of(lines_of(row)), note="row %s" % (row,))
+
+
+# Document 01's short cases: the kits held, and the question or deletion on them.
+SHORT_CASES = [
+    ([], "within", [1]),
+    ([()], "within", []),
+    ([()], "containing", [1]),
+    ([(1,), (1, 1)], "within", [1]),
+    ([(1,), (1, 1)], "containing", [1]),
+    ([(1, 3)], "containing", [3]),
+    ([(2,)], "within", [1, 2]),
+    ([(1, 2), (2,)], "within", [2, 3]),
+    ([(1,), (1, 2)], "delete", [1]),
+    ([(1,), (1, 2)], "delete", [1, 2]),
+]
+CASE_LETTERS = {"within": "wW", "containing": "cC", "delete": "d"}
+
+
+def short_cases():
+    """Document 01's table of short cases, and the wrong turns that the trade has seen."""
+    three = parts_register(3)
+    for held, question, row in SHORT_CASES:
+        words = table(6, *((kit, tag) for tag, kit in enumerate(held, start=11)))
+        for letter in CASE_LETTERS[question]:
+            yield Request(letter, R=three, N=words, L=words_of(lines_of(row)),
+                          P=some_output(letter, 3), note="%s %s of %s" % (question, row, held))
+    five = parts_register(5)
+    held = [((1, 2, 5), 31), ((1, 3), 32), ((2, 3), 33), ((2, 5), 34), ((3,), 35), ((3, 3), 36),
+            ((1, 1, 4), 37), ((4, 5), 38), ((1, 5, 5), 39), ((), 30)]
+    lists = [[], [1, 1], [2, 1], [3, 1], [3, 2], [4, 1], [5, 1], [5, 2], [1, 1, 5, 1],
+             [2, 1, 5, 1], [1, 1, 2, 1, 5, 1], [1, 2, 4, 1], [1, 1, 4, 1], [1, 15, 2, 15, 3, 1],
+             [1, 1, 2, 1, 3, 1, 4, 1, 5, 1], [1, 15, 2, 15, 3, 15, 4, 15, 5, 15], [2, 1, 3, 2]]
+    for kits in (held, held[:-1], held[:4]):
+        words = table(30, *kits)
+        for listed in lists:
+            for letter in QUESTION_LETTERS:
+                yield Request(letter, R=five, N=words, L=listed, P=some_output(letter, 11),
+                              note="question on %s" % listed)
+
+
+def outputs():
+    """Listings into an output exactly full, one short, empty, and with room behind."""
+    three = parts_register(3)
+    kits = [((), 1), ((1,), 2), ((1, 2), 3), ((1, 2, 3), 4), ((2,), 5), ((3, 3), 65535)]
+    words = table(9, *kits)
+    for room in range(8):
+        for letter in "WC":
+            for listed in ([], [1, 1], [2, 1], [1, 1, 2, 1], [1, 15, 2, 15, 3, 15], [3, 3]):
+                yield Request(letter, R=three, N=words, L=listed, P=BEFORE[:room],
+                              note="list all into %d places" % room)
+
+
+def bins():
+    """Bins above 64 units, with every quantity around what a kit needs."""
+    two = parts_register(2)
+    words = table(50, ((1,) * 15 + (2,) * 15, 1), ((1,) * 14, 2), ((2,) * 15, 3), ((1, 2), 4))
+    for first in (1, 13, 14, 15):
+        for second in (1, 14, 15):
+            for letter in QUESTION_LETTERS:
+                yield Request(letter, R=two, N=words, L=[1, first, 2, second],
+                              P=some_output(letter), note="%d and %d" % (first, second))
+
+
+def sweeps():
+    """Each word of a small table set to each of many values, and pairs of words in a tiny one."""
+    letters = TABLE_LETTERS
+    words = list(example_words())
+    three = parts_register(3)
+    count = len(words) // NODE_WORDS
+    turn = 0
+    for at, word in enumerate(words):
+        values = set(range(count + 2)) | {word + 1, (word - 1) % 65536, 5, 10, 64, 65, 65535}
+        for value in sorted(values - {word}):
+            changed = words[:at] + [value] + words[at + 1:]
+            letter = letters[turn % len(letters)]
+            turn += 1
+            yield Request(letter, 77, R=three, N=changed, L=[1, 1, 2, 1], P=some_output(letter, 9),
+                          O=bytes(80), note="word %d set to %d" % (at, value))
+    tiny = table(4, ((1, 2), 2), ((2,), 3))
+    tiny_values = (0, 1, 2, 3)
+    for first in range(len(tiny)):
+        for second in range(first + 1, len(tiny)):
+            for one in tiny_values:
+                for two in tiny_values:
+                    if one == tiny[first] or two == tiny[second]:
+                        continue
+                    changed = list(tiny)
+                    changed[first], changed[second] = one, two
+                    letter = letters[turn % len(letters)]
+                    turn += 1
+                    yield Request(letter, 77, R=three, N=changed, L=[2, 1],
+                                  P=some_output(letter, 3), O=bytes(60),
+                                  note="words %d and %d set to %d and %d" % (
+                                      first, second, one, two))
+    # Two nodes change places, one stands twice, or one is lost.
+    example = nodes.nodes_of(words)
+    for one in range(count):
+        for other in range(count):
+            for changed in (swapped(example, one, other), copied(example, one, other)):
+                letter = letters[turn % len(letters)]
+                turn += 1
+                yield Request(letter, 77, R=three, N=nodes.words_of(changed), L=[1, 1, 3, 1],
+                              P=some_output(letter, 9), O=bytes(80),
+                              note="nodes %d and %d" % (one, other))
+
+
+def swapped(row, one, other):
+    """The nodes with two of them in each other's place."""
+    row = list(row)
+    row[one], row[other] = row[other], row[one]
+    return row
+
+
+def copied(row, one, other):
+    """The nodes with the first of two also in the other's place."""
+    row = list(row)
+    row[other] = row[one]
+    return row
+
+
+def renumbered(words, order):
+    """The table with node `at` moved to place order[at], all links along with it."""
+    moved = [FREE] * len(order)
+    for at, node in enumerate(nodes.nodes_of(words)):
+        if at == ROOT or node != FREE:
+            moved[order[at]] = node._replace(
+                parent=order[node.parent], first_child=order[node.first_child],
+                next_sibling=order[node.next_sibling])
+    return nodes.words_of(moved)
+
+
+@functools.lru_cache(maxsize=None)
+def large_table(kind):
+    """A sound table of 4,096 nodes beside 255 parts, of one of several shapes."""
+    if kind == "pairs":
+        # 255 siblings below the root, and chains below them, until all nodes are used.
+        rows = [(first,) for first in range(1, MOST_SLOTS + 1)]
+        rows += [(first, second) for first in range(1, MOST_SLOTS + 1)
+                 for second in range(first, MOST_SLOTS + 1)]
+        return tuple(table(MOST_NODES, *((row, tag) for tag, row in enumerate(
+            rows[:MOST_NODES - 1], start=1))))
+    if kind == "every node a kit":
+        return tuple(index.inserted(list(large_table("pairs")), (), 65535))
+    if kind == "one free":
+        return tuple(index.deleted(list(large_table("pairs")), (16, 100)))
+    if kind == "long paths":
+        return tuple(long_paths(Chance(64), MOST_NODES))
+    if kind == "renumbered":
+        words = large_table("long paths")
+        order = list(range(1, MOST_NODES))
+        chance = Chance(65)
+        for at in range(len(order) - 1, 0, -1):
+            other = chance.below(at + 1)
+            order[at], order[other] = order[other], order[at]
+        return tuple(renumbered(list(words), [0] + order))
+    raise ValueError(kind)
+
+
+LARGE_KINDS = ["pairs", "every node a kit", "one free", "long paths", "renumbered"]
+
+
+def long_paths(chance, node_count):
+    """A table filled with kits of 64 units that share beginnings, until no node is free."""
+    words = [FREE] * node_count
+    free = node_count - 1
+    tag = 1
+    row = []
+    while free > 0:
+        row = row[:chance.below(len(row) + 1)]
+        while len(row) < MOST_UNITS:
+            label = min(MOST_SLOTS, (row[-1] if row else 1) + chance.pick((0, 0, 0, 1, 2, 9)))
+            while row.count(label) >= MOST_QUANTITY:
+                label += 1
+            if label > MOST_SLOTS:
+                break
+            row.append(label)
+        held = index.missing_nodes(nodes.words_of(words), row)
+        if held == 0:
+            continue
+        row = row[:len(row) - max(0, held - free)]
+        index.enter(words, row, tag)
+        free -= min(held, free)
+        tag += 1
+    return nodes.words_of(words)
+
+
+def large():
+    """Tables of 4,096 nodes and one more, chains of 255 siblings, 255 lines, long outputs."""
+    full = parts_register(MOST_SLOTS, MOST_SLOTS)
+    for length in (MOST_NODES * NODE_WORDS, MOST_NODES * NODE_WORDS + 1,
+                   (MOST_NODES + 1) * NODE_WORDS, (MOST_NODES - 1) * NODE_WORDS, 28700):
+        for letter in ALL_LETTERS:
+            yield Request(letter, 7, R=parts_register(2), N=[0] * length, L=[1, 2],
+                          P=some_output(letter), O=bytes(60), note="%d words" % length)
+    everything = [word for place in range(1, MOST_SLOTS + 1) for word in (place, 15)]
+    ones = [word for place in range(1, MOST_SLOTS + 1) for word in (place, 1)]
+    lists = [[], [1, 1], [MOST_SLOTS, 1], [16, 1, 100, 1], [16, 1, 101, 1], ones, everything,
+             everything + [256, 1], everything + [255, 1], ones[:128], ones[:130],
+             [word for place in range(1, 4001) for word in (place, 1)], LONGEST_LIST]
+    siblings = table(256, *(((place,), 1000 - place) for place in (
+        list(range(2, 256, 2)) + list(range(255, 0, -2)))))
+    for listed in lists:
+        for letter in LIST_LETTERS:
+            yield Request(letter, 40000, R=full, N=siblings, L=listed, P=[9] * 300,
+                          note="255 siblings, list of %d words" % len(listed))
+    for kind in LARGE_KINDS:
+        words = large_table(kind)
+        for listed in ([], [16, 1, 100, 1], everything, LONGEST_LIST):
+            for letter in LIST_LETTERS:
+                yield Request(letter, 40000, R=full, N=words, L=listed, P=[9] * 4200,
+                              note="4096 nodes, %s, list of %d words" % (kind, len(listed)))
+        yield Request("k", 1, R=full, N=words, L=[255, 15], note="4096 nodes, tag taken")
+        yield Request("k", 60001, R=full, N=words, L=[200, 1, 255, 15], note="4096 nodes, " + kind)
+        yield Request("k", 60001, R=full, N=words, L=TOO_LONG_LIST, note="4096 nodes, " + kind)
+        yield Request("e", R=full, N=words, note="4096 nodes, " + kind)
+    every = large_table("every node a kit")
+    for room in (0, 1, 4095, 4096, 4097):
+        for letter, listed in (("W", everything), ("C", [])):
+            yield Request(letter, R=full, N=every, L=listed, P=[7] * room,
+                          note="4096 kits into %d places" % room)
+
+
+class Stock:
+    """Catalogues that grow and shrink from request to request, as calls would bring them on."""
+
+    def __init__(self, chance):
+        self.chance = chance
+        self.held = [self.new_catalogue() for _ in range(16)]
+
+    def new_catalogue(self):
+        """An empty catalogue with a few parts and a few nodes."""
+        chance = self.chance
+        parts = chance.pick((0, 1, 2, 2, 3, 3, 3, 4, 5, 6, 6, 9))
+        slots = max(1, parts + chance.pick((0, 0, 1, 3)))
+        node_count = chance.pick((1, 2, 3, 5, 8, 12, 12, 16, 20, 30, 40, 70))
+        return parts_register(parts, slots), [0] * node_count * NODE_WORDS
+
+    def catalogue(self):
+        """One of the catalogues, brought on by a step: its register, table and kits."""
+        chance = self.chance
+        at = chance.below(len(self.held))
+        if chance.one_in(40):
+            self.held[at] = self.new_catalogue()
+        register, words = self.held[at]
+        parts = len(numbers_of(register))
+        kits = nodes.held_kits(words)
+        for _ in range(chance.pick((0, 1, 1, 2))):
+            words, kits = self.step(words, kits, parts)
+        self.held[at] = register, words
+        return register, words, kits
+
+    def step(self, words, kits, parts):
+        """The table after a deletion or an insertion that has room."""
+        chance = self.chance
+        if kits and chance.one_in(4):
+            row = chance.pick(sorted(kits))
+            words = index.deleted(words, row)
+        else:
+            row = some_row(chance, sorted(kits), parts)
+            tag = some_new_tag(chance, kits)
+            if len(row) > MOST_UNITS or row in kits:
+                return words, kits
+            if index.missing_nodes(words, row) > index.free_count(words):
+                return words, kits
+            words = index.inserted(words, row, tag)
+        return words, nodes.held_kits(words)
+
+
+def some_new_tag(chance, kits):
+    """A tag that no held kit bears."""
+    while True:
+        tag = chance.pick((chance.between(1, 30), chance.between(1, 65535), 65535))
+        if tag not in kits.values():
+            return tag
+
+
+def some_row(chance, rows, parts):
+    """A unit row, mostly sharing its beginning with a held one."""
+    if parts == 0:
+        return ()
+    row = list(chance.pick(rows)) if rows and chance.below(5) < 3 else []
+    row = row[:chance.below(len(row) + 1)] if chance.one_in(2) else row
+    for _ in range(chance.pick((0, 1, 1, 1, 2, 2, 3, 5, 17))):
+        low = row[-1] if row else 1
+        label = min(parts, low + chance.pick((0, 0, 1, 1, 2, 3)))
+        if row.count(label) < MOST_QUANTITY:
+            row.append(label)
+    return tuple(row)
+
+
+def some_list(chance, kits, parts):
+    """A list: a held kit's, one near it, the union of some, or another; sometimes at fault."""
+    rows = sorted(kits)
+    quantities = {}
+    way = chance.below(8)
+    if rows and way < 3:
+        quantities = dict(lines_of(chance.pick(rows)))
+    elif rows and way == 3:
+        for _ in range(chance.between(1, 3)):
+            for place, quantity in lines_of(chance.pick(rows)):
+                quantities[place] = max(quantities.get(place, 0), quantity)
+    elif way < 7:
+        quantities = dict(lines_of(some_row(chance, rows, parts)))
+    else:
+        most = chance.pick((1, 2, 15, 15))
+        quantities = {place: chance.pick((0, 1, most, most, most, most))
+                      for place in range(1, parts + 1)}
+    if parts and chance.one_in(3):
+        place = chance.between(1, parts)
+        quantities[place] = min(15, max(0, quantities.get(place, 0) + chance.pick((-1, 1, 1, 2))))
+    words = words_of(sorted((place, quantity) for place, quantity in quantities.items() if quantity))
+    if chance.one_in(5):
+        words = faulty_list(chance, words, parts)
+    return words
+
+
+def faulty_list(chance, words, parts):
+    """The list with one thing changed, which mostly puts it at fault."""
+    words = list(words)
+    way = chance.below(9)
+    if way == 0:
+        return words + [chance.pick((1, parts, parts + 1))]
+    if not words:
+        return [chance.pick((0, 1, parts, parts + 1)), chance.pick((0, 1, 15, 16))]
+    line = 2 * chance.below(len(words) // 2)
+    if way in (1, 2):
+        words[line] = chance.pick((0, 1, parts, parts + 1, parts + 2, 256, 65535))
+    elif way in (3, 7, 8):
+        words[line + 1] = chance.pick((0, 15, 16, 17, 256, 65535))
+    elif way == 4:
+        words += words[line:line + 2]
+    elif way == 5:
+        words = words[:line] + words[line:line + 2] + words[line:]
+    else:
+        words = words[line:] + words[:line]
+    return words
+
+
+def damaged_table(chance, words, parts):
+    """The table with a few words, a node or the length changed, which may leave it sound."""
+    words = list(words)
+    count = len(words) // NODE_WORDS
+    way = chance.below(12)
+    if way == 0:
+        return words[:chance.below(len(words) + 1)]
+    if way == 1:
+        return words + [0] * chance.pick((1, 5, 6, 7))
+    row = nodes.nodes_of(words)
+    taken = nodes.used_numbers(row)
+    if way == 2:
+        return nodes.words_of(swapped(row, chance.pick(taken), chance.below(count)))
+    if way == 3:
+        return nodes.words_of(copied(row, chance.pick(taken), chance.below(count)))
+    if way == 4:
+        row[chance.pick(taken)] = FREE
+        return nodes.words_of(row)
+    for _ in range(chance.pick((1, 1, 1, 2, 3))):
+        at = chance.pick(taken) * NODE_WORDS + chance.below(NODE_WORDS)
+        words[at] = chance.pick((0, 1, (words[at] + 1) % 65536, (words[at] - 1) % 65536,
+                                 chance.below(count + 1), chance.below(count + 1), parts,
+                                 chance.pick(EDGE_WORDS)))
+    return words
+
+
+def some_tables(chance, stock):
+    """Both tables and the kits that they held before any damage; now and then large ones."""
+    if chance.one_in(250):
+        register = parts_register(MOST_SLOTS, MOST_SLOTS)
+        words = list(large_table(chance.pick(LARGE_KINDS)))
+    else:
+        register, words, _ = stock.catalogue()
+    kits = nodes.held_kits(words)
+    parts = len(numbers_of(register))
+    if chance.below(10) < 3:
+        if chance.one_in(6):
+            register = damaged_register(chance, register)
+        else:
+            words = damaged_table(chance, words, parts)
+    return register, words, kits, parts
+
+
+def some_tag(chance, kits):
+    """A tag for an insertion: mostly new, sometimes 0 or one that is held."""
+    if kits and chance.one_in(6):
+        return chance.pick(sorted(kits.values()))
+    if chance.one_in(12):
+        return 0
+    return some_new_tag(chance, kits)
+
+
+def some_room(chance, kits):
+    """How long an output is beside what a listing could need."""
+    count = len(kits)
+    return chance.pick((0, 1, max(0, count - 1), count, count + 1, chance.between(0, count + 2)))
+
+
+class Maker:
+    """Makes requests by chance on catalogues that it keeps."""
+
+    def __init__(self, chance):
+        self.chance = chance
+        self.stock = Stock(chance)
+
+    def by_chance(self, letter):
+        """A request for this call."""
+        chance = self.chance
+        register, words, kits, parts = some_tables(chance, self.stock)
+        output = chance.some_words(some_room(chance, kits)) if letter in "WC" else []
+        return Request(letter, some_tag(chance, kits), R=register, N=words,
+                       L=some_list(chance, kits, parts), P=output)

@@ -1,0 +1,73 @@
+"""Lists, their units, inclusion and listing order, as "Kits and bins" in document 01 says."""
+
+from collections import Counter
+
+from .refusals import BAD_ORDER, BAD_QUANTITY, BEYOND_PARTS, Refusal
+
+# "each quantity is 1 to 15"
+LEAST_QUANTITY = 1
+MOST_QUANTITY = 15
+# "A kit is at most 64 units"
+MOST_UNITS = 64
+
+
+def checked_lines(words, parts):
+    """The list's lines as (place, quantity), or the refusal that the list gets.
+
+    "then 4 for odd length; then line by line 4, 5, 6".
+    """
+    if len(words) % 2 != 0:
+        raise Refusal(BAD_ORDER)
+    lines = []
+    before = 0
+    for at in range(0, len(words), 2):
+        place, quantity = words[at], words[at + 1]
+        # "a place 0 or not above the one before"
+        if place == 0 or place <= before:
+            raise Refusal(BAD_ORDER)
+        if place > parts:
+            raise Refusal(BEYOND_PARTS)
+        if not LEAST_QUANTITY <= quantity <= MOST_QUANTITY:
+            raise Refusal(BAD_QUANTITY)
+        lines.append((place, quantity))
+        before = place
+    return lines
+
+
+def units(lines):
+    """A list's units: "its places, each repeated as often as its quantity"."""
+    return tuple(place for place, quantity in lines for _ in range(quantity))
+
+
+def quantities(row):
+    """How often each place stands in a row; 0 for a place that does not."""
+    return Counter(row)
+
+
+def lines_of(row):
+    """The lines whose units are this row."""
+    return sorted(quantities(row).items())
+
+
+def words_of(lines):
+    """The lines as a list is lent: place, quantity, place, quantity."""
+    return [word for line in lines for word in line]
+
+
+def included(need, have):
+    """Multiset inclusion of quantities: for each part no more than the other's."""
+    return all(quantity <= have[place] for place, quantity in need.items())
+
+
+def listing_order(held):
+    """Held kits (a row with its tag) in listing order.
+
+    "compares unit rows place by place; a row that begins another comes before it", which is
+    how python compares tuples.
+    """
+    return sorted(held.items())
+
+
+def beginnings(rows):
+    """The different nonempty beginnings of these rows."""
+    return {row[:length] for row in rows for length in range(1, len(row) + 1)}

@@ -1,0 +1,25 @@
+"""The answer numbers of document 01's table, by name, and a refusal that carries one."""
+
+DONE = 0
+WRONG_LENGTH = 1
+NOT_SOUND = 2
+BAD_NUMBER = 3
+BAD_ORDER = 4
+BEYOND_PARTS = 5
+BAD_QUANTITY = 6
+TOO_MANY_UNITS = 7
+TAG_ZERO = 8
+ALREADY_HELD = 9
+TAG_TAKEN = 10
+NOT_HELD = 11
+NO_ROOM = 12
+SHEET_AT_FAULT = 13
+
+
+class Refusal(Exception):
+    """A call that is refused: its number, and its value ("0 unless stated")."""
+
+    def __init__(self, number, value=0):
+        super().__init__(number, value)
+        self.number = number
+        self.value = value

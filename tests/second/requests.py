@@ -1,0 +1,114 @@
+"""The requests that the probe is tried with: fixed, by chance, and broken ones."""
+
+from . import index_requests, register_requests, sheet_requests
+from .chance import Chance
+from .frame import COUNT, REQUEST_BLOCKS, REQUEST_HEAD, ROOM, WORD_BLOCKS, Request
+
+# Who makes the requests of each letter by chance. Each maker's fixed requests are its limits
+# (the document's own, each small), its sweeps (many values of one thing) and large ones.
+MAKERS = [
+    ("pln", register_requests),
+    ("ekfdwcWC", index_requests),
+    ("sr", sheet_requests),
+]
+
+# The blocks that each call uses; it must leave the others as they are.
+USES = {
+    "e": "RN", "p": "RI", "l": "RI", "n": "RO", "k": "RNL", "f": "RNL", "d": "RNL", "w": "RNL",
+    "c": "RNL", "W": "RNLP", "C": "RNLP", "s": "RNO", "r": "RNI",
+}
+
+# The calls with the most ways to go wrong are made more often.
+OFTEN = "kdWCr"
+
+# Bytes outside the printable ones, tried as letters.
+OTHER_LETTERS = bytes([0, 1, 10, 13, 31, 127, 128, 255])
+
+
+def limits(letters):
+    """The limits for these letters."""
+    return chosen(letters, "limits")
+
+
+def sweeps(letters):
+    """The sweeps for these letters."""
+    return chosen(letters, "sweeps")
+
+
+def large(letters):
+    """The large requests for these letters."""
+    return chosen(letters, "large")
+
+
+def chosen(letters, kind):
+    """The fixed requests of one kind for these letters, from every maker."""
+    for _, maker in MAKERS:
+        for request in getattr(maker, kind)():
+            if request.letter in letters:
+                yield request
+
+
+def one_of_each(row):
+    """Of the requests that try the same thing one each, by one letter after the other."""
+    same = {}
+    for request in row:
+        same.setdefault(request.note, []).append(request)
+    return [group[turn % len(group)] for turn, group in enumerate(same.values())]
+
+
+def by_chance(letters, seed, count):
+    """So many requests by chance for these letters; the blocks not used hold anything."""
+    chance = Chance(seed)
+    makers = {}
+    for made, module in MAKERS:
+        maker = module.Maker(chance)
+        makers.update((letter, maker) for letter in made)
+    drawn = letters + "".join(letter for letter in letters if letter in OFTEN) * 2
+    for _ in range(count):
+        letter = chance.pick(drawn)
+        request = makers[letter].by_chance(letter)
+        for name in REQUEST_BLOCKS:
+            if name not in USES[letter] and not request.blocks[name] and chance.one_in(2):
+                request.blocks[name] = some_block(chance, name)
+        if chance.one_in(2):
+            request.b = chance.some_words(1)[0]
+        yield request
+
+
+def some_block(chance, name):
+    """A few elements of any value."""
+    count = chance.pick((0, 1, 2, 5, 9))
+    return chance.some_words(count) if name in WORD_BLOCKS else chance.some_bytes(count)
+
+
+def broken(letters):
+    """Inputs that end the program: one good request, then one that cannot be read."""
+    good = Request(letters[0], R=bytes(64), I=b"741", N=[1, 2], L=[3], P=[4], Q=[5], O=b"6",
+                   K=[7], D=[8], M=b"9").pack()
+    for at in range(1, len(good)):
+        yield good + good[:at]
+    for letter in bytes(range(32, 127)) + OTHER_LETTERS:
+        if chr(letter) not in letters:
+            yield good + bytes([letter]) + good[1:]
+    for name in REQUEST_BLOCKS:
+        for count in (ROOM[name] + 1, 65536 + 1, 1 << 31, (1 << 32) - 1):
+            yield good + oversize(letters[0], name, count) + good
+
+
+def oversize(letter, name, count):
+    """A request whose one block announces so many elements, with as many as fit a page."""
+    parts = [REQUEST_HEAD.pack(letter.encode("latin-1"), 0, 0)]
+    for block in REQUEST_BLOCKS:
+        parts.append(COUNT.pack(count if block == name else 0))
+        if block == name:
+            parts.append(bytes(min(count, 1 << 17) * (2 if name in WORD_BLOCKS else 1)))
+    return b"".join(parts)
+
+
+def roomiest(letters):
+    """A request for each letter with one block as large as its room, for each block."""
+    for letter in letters:
+        for name in REQUEST_BLOCKS:
+            element = [0xA55A] if name in WORD_BLOCKS else b"\xa5"
+            yield Request(letter, note="block %s as large as its room" % name,
+                          **{name: element * ROOM[name]})

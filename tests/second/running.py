@@ -1,0 +1,59 @@
+"""Runs a built program on this processor.
+
+Programs are built for x86-64. The kit's folder is two above the page that `rt doc` names; below
+it, on/PROCESSOR/toolchain has the loader and, on another processor, qemu-x86_64.
+"""
+
+import pathlib
+import platform
+import subprocess
+
+BUILT_MARK = b"\x7fELF"
+LONGEST_RUN = 600
+
+
+class CannotRun(Exception):
+    """A program that is not there, or that this processor cannot run."""
+
+
+def command_for(program):
+    """The command that runs this program: a built one by the loader, a script as it is."""
+    program = pathlib.Path(program)
+    if not program.is_file():
+        raise CannotRun("no program %s; build it first" % program)
+    with program.open("rb") as file:
+        if file.read(len(BUILT_MARK)) != BUILT_MARK:
+            return [str(program)]
+    toolchain = kit_folder() / "on" / platform.machine() / "toolchain"
+    loader = toolchain / "lib" / "ld-linux-x86-64.so.2"
+    emulator = toolchain / "bin" / "qemu-x86_64"
+    if not loader.is_file():
+        raise CannotRun("no loader %s" % loader)
+    command = [str(loader), "--library-path", str(loader.parent), str(program)]
+    if platform.machine() != "x86_64":
+        if not emulator.is_file():
+            raise CannotRun("no emulator %s" % emulator)
+        command.insert(0, str(emulator))
+    return command
+
+
+def kit_folder():
+    """The kit's folder, from the page that `rt doc` names."""
+    try:
+        page = subprocess.run(["rt", "doc"], stdout=subprocess.PIPE, check=True).stdout
+    except (OSError, subprocess.CalledProcessError) as fault:
+        raise CannotRun("rt doc does not name the kit's page: %s" % fault) from fault
+    return pathlib.Path(page.decode().split("\n")[0].strip()).resolve().parents[1]
+
+
+def output_of(command, data):
+    """What the program writes for this input, and how it ended ("" when well)."""
+    try:
+        run = subprocess.run(command, input=data, stdout=subprocess.PIPE, timeout=LONGEST_RUN)
+    except subprocess.TimeoutExpired as slow:
+        return slow.stdout or b"", "did not end within %d seconds" % LONGEST_RUN
+    except OSError as fault:
+        raise CannotRun(str(fault)) from fault
+    if run.returncode != 0:
+        return run.stdout, "ended with status %d" % run.returncode
+    return run.stdout, ""
