@@ -1,0 +1,2 @@
+-- Laws of filling the tables.
+pub mod Slots
