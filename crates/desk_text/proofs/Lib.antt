@@ -1,6 +1,4 @@
--- The laws of lines, amounts, replies and the input.
+-- The laws of stretches, amounts and lines.
 pub mod Parted
 pub mod Amounts
 pub mod Lines
-pub mod Replies
-pub mod Input

@@ -12,6 +12,9 @@ use Rattle.desk_text.specs.Letters.{registers, inserts, writes, takesLis
 abbrev pub space : ℕ
 space = 32
 
+abbrev pub lineFeed : ℕ
+lineFeed = 10
+
 -- "A line is at most 512 bytes before its line feed"
 abbrev pub longestLine : ℕ
 longestLine = 512

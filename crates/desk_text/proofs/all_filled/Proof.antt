@@ -9,10 +9,10 @@ use Rattle.desk_text.proofs.all_filled.Statement.{statement}
 use Rattle.desk_text.proofs.all_filled.Tie as tie
 
 abbrev Inv-loop : tie.InvT-loop
-Inv-loop line at₀ at = (at ≤ length line + 1) × (allb filled (fieldsFrom line at) ≡ allb filled (fieldsOf line))
+Inv-loop line start₀ start = (start ≤ length line + 1) × (allb filled (fieldsFrom line start) ≡ allb filled (fieldsOf line))
 
 abbrev μ-loop : tie.MeasureT-loop
-μ-loop line at₀ at = length line + 1 - at
+μ-loop line start₀ start = length line + 1 - start
 
 loop-holds : tie.Need-loop-holds Inv-loop μ-loop
 loop-holds c = (omega arith, all-from _)
@@ -21,16 +21,16 @@ end-of-requires : tie.Need-end-of-requires Inv-loop μ-loop
 end-of-requires c κs = omega arith
 
 returns : tie.Need-returns Inv-loop μ-loop
-returns c = cc (filled-no _ _ _ (c .before .before .loop-test .taken) (c .before .end-of .ensures) (c .if1 .taken))
+returns c = cc (filled-no _ _ _ (omega arith) (c .before .end-of .ensures) (c .if1 .taken))
 
-add-at : tie.Need-add-at Inv-loop μ-loop
-add-at c = omega (arith, c .before .end-of .ensures .high)
+add-start : tie.Need-add-start Inv-loop μ-loop
+add-start c = omega (arith, c .before .end-of .ensures .high)
 
 loop-less : tie.Need-loop-less Inv-loop μ-loop
 loop-less c = omega (arith, c .before .end-of .ensures .low)
 
 loop-again : tie.Need-loop-again Inv-loop μ-loop
-loop-again c = (omega (arith, c .before .end-of .ensures .high), cc (filled-yes _ _ _ (c .before .before .loop-test .taken) (c .before .end-of .ensures) (c .if1 .left)))
+loop-again c = (omega (arith, c .before .end-of .ensures .high), cc (filled-yes _ _ _ (omega arith) (c .before .end-of .ensures) (c .if1 .left)))
 
 returns-2 : tie.Need-returns-2 Inv-loop μ-loop
 returns-2 c = cc (filled-end _ _ (c .loop-test .left))
@@ -44,7 +44,7 @@ all-filled-spec =
     loop-holds
     end-of-requires
     returns
-    add-at
+    add-start
     loop-less
     loop-again
     returns-2)

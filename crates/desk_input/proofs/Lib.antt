@@ -1,0 +1,2 @@
+-- The laws of an input that is read in pieces.
+pub mod Input
