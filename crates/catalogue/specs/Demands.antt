@@ -12,8 +12,8 @@ use Rattle.register.specs.Register.{slotBytes}
 use Rattle.kits.specs.Kits.{Within, units, before}
 use Rattle.nodes.specs.Nodes.{wordsPerNode, mostNodes, nodesLength}
 use Rattle.nodes.specs.Sound.{nodesSound}
-use Rattle.nodes.specs.Held.{Kit, tagIn, dropKit}
-use Rattle.questions.specs.Questions.{listed, isWithin, isContaining, fitting}
+use Rattle.nodes.specs.Held.{Kit, listed, tagIn, dropKit}
+use Rattle.questions.specs.Questions.{isWithin, isContaining, fitting}
 use Rattle.sheet.specs.Bytes.{Bytes}
 use Rattle.sheet.specs.Sheet.{Contents, encode}
 use Rattle.sheet.specs.Reading.{decode, said}

@@ -8,7 +8,7 @@ use lib.ListN.{length}
 use borrow.Author.Tests.{not-false}
 use Rattle.ground.specs.Limits.{mostParts}
 use Rattle.ground.specs.Calls.{Case, given, Reply, done, refused, isRefused, valueOf, decide}
-use Rattle.ground.proofs.Calls.{done-passes, first-passes}
+use Rattle.ground.proofs.Calls.{done-passes, first-refuses, first-passes}
 use Rattle.register.specs.Register.{slotCount, partsOf, registerLength, registerSound}
 use Rattle.register.specs.Inner.{Ready}
 use Rattle.register.proofs.Sound.{few-slots, ready-holds}
@@ -48,6 +48,10 @@ module _ (R N : List ℕ) where
       let a = done-passes _ _ _ _ (passed-is _ e) in
       let b = done-passes _ _ _ _ (a .1) in
       (not-false _ (a .0), not-false _ (b .0))
+
+  pub both-refused : (r : Reply) → r ≡ decide (lengths (tables R N)) 0 → isRefused r ≡ true → r ≡ decide (lentBoth (tables R N)) 0
+  unfolding lentBoth
+  both-refused r is e = first-refuses r _ _ 0 0 is e
 
   module _ (fits : registerLength R ≡ true) (sized : nodesLength N ≡ true) where
     pub both-register : registerSound R ≡ false → decide (lentBoth (tables R N)) 0 ≡ refused 2 0
@@ -104,5 +108,19 @@ pub record LentList (R N l : List ℕ) : Type 0 where
   pub both : Lent R N
   pub good : goodList (length (partsOf R)) l ≡ true
 
-pub lent-passed : (R N l : List ℕ) → isRefused (decide (lentList (tables R N) l) 0) ≡ false → LentList R N l
-lent-passed R N l e = ?
+module _ (R N l : List ℕ) where
+  -- a call that the tables refuse is refused so, whatever is asked of the list
+  pub list-refused : (r : Reply) → r ≡ decide (lentBoth (tables R N)) 0 → isRefused r ≡ true → r ≡ decide (lentList (tables R N) l) 0
+  unfolding lentList
+  list-refused r is e = first-refuses r _ _ 0 0 is e
+
+  pub list-asked : (r : Reply) → r ≡ decide (lentBoth (tables R N)) 0 → isRefused r ≡ false → decide (lentList (tables R N) l) 0 ≡ decide (listFaults (length (partsOf R)) l) 0
+  unfolding lentList
+  list-asked r is e = first-passes r _ _ 0 0 is e
+
+  pub lent-passed : isRefused (decide (lentList (tables R N) l) 0) ≡ false → LentList R N l
+  lent-passed e = go (isRefused (decide (lentBoth (tables R N)) 0)) refl
+    where
+      go : (b : Bool) → isRefused (decide (lentBoth (tables R N)) 0) ≡ b → LentList R N l
+      go true h = absurd (false≢true (sym e ∙ ap isRefused (sym (list-refused _ refl h)) ∙ h))
+      go false h = record { both = both-passed R N h; good = list-passed (length (partsOf R)) l (ap isRefused (sym (list-asked _ refl h)) ∙ e) }
