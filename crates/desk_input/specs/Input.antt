@@ -1,9 +1,9 @@
 -- Document 01, "The desk program": the lines of the input, and what is kept of a line while it is read in pieces.
 use mathlib.Core.Path.{_≡_}
 use mathlib.Core.Bool.{cond}
-use mathlib.Core.List.{List, [], _∷_, _++_, map}
+use mathlib.Core.List.{List, [], _∷_}
 use Prim.Native.Nat.{ℕ, suc, _+_, _-_}
-use lib.ListN.{length, take, drop}
+use lib.ListN.{length, take}
 use lib.Dec.{eqb}
 use Rattle.ground.specs.Laid.{laid}
 use Rattle.desk_text.specs.Parted.{parted}

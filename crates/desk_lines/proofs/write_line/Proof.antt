@@ -1,37 +1,26 @@
-use mathlib.Core.Path.{sym, ap, _∙_}
 use native.Mathlib.Omega.{arith}
-use lib.ListN.{length}
-use Rattle.catalogue.specs.Calls.{tables, writing}
-use Rattle.catalogue.specs.Answers.{reply}
+use Rattle.lent.specs.Lent.{tables}
+use Rattle.catalogue.specs.Calls.{writing}
 use Rattle.desk_text.specs.Letters.{writes}
 use Rattle.desk_lines.specs.Desk.{sheetText, writeLine}
 use Rattle.desk_lines.proofs.Answering.{written-inside, shown-put}
 use borrow.Author.Needs.{needs}
 use Rattle.desk_lines.proofs.write_line.Statement.{statement}
 use Rattle.desk_lines.proofs.write_line.Tie as tie
-use Rattle.desk_lines.proofs.write_line.Reads as reads
-use Rattle.desk_lines.proofs.write_line.Lts as lts
-use Rattle.catalogue.proofs.write_sheet.Reads as write-sheet-reads
-use Rattle.desk_lines.proofs.put_written.Reads as put-written-reads
 
--- src/lib.rt:151:9
 write-sheet-requires : tie.Need-write-sheet-requires
 write-sheet-requires c κs = search needs
 
--- src/lib.rt:152:5
 put-written-requires : tie.Need-put-written-requires
 put-written-requires c κs = let a = c .before .before .before .before .before .before .before .before .before .before .args in
     (omega (arith, c .before .before .before .before .write-sheet .kept .1 .1 .0), written-inside (tables (a .reg .now) (a .nodes .now)) (a .sheet .now) _ _ (c .before .before .before .before .write-sheet .ensures))
 
--- src/lib.rt:147:1
 same-length : tie.Need-same-length
 same-length c = search needs
 
--- src/lib.rt:147:1
 same-length-2 : tie.Need-same-length-2
 same-length-2 c = search needs
 
--- src/lib.rt:147:1
 returns : tie.Need-returns
 unfolding writeLine
 returns c = let a = c .before .before .before .before .before .before .before .before .before .before .before .before .before .args in

@@ -3,12 +3,12 @@ use mathlib.Core.Path.{_≡_, refl, ap, sym, _∙_, subst}
 use mathlib.Core.Logic.{_⊎_, inl, inr}
 use mathlib.Core.Bool.{Bool, true, false, _&&_, false≢true}
 use mathlib.Core.List.{List, [], _∷_}
-use Prim.Native.Nat.{ℕ, suc, _+_, _-_, _≤_, _<_}
+use Prim.Native.Nat.{ℕ, _+_, _≤_, _<_}
 use native.Mathlib.Omega.{arith}
 use lib.ListN.{length, getD, take, drop}
 use lib.Dec.{eqb, leb}
 use borrow.Author.Tests.{eqb-true, eqb-false, leb-true}
-use Rattle.ground.specs.Lists.{allb, anyb, every}
+use Rattle.ground.specs.Lists.{allb, anyb}
 use Rattle.ground.proofs.Laws.{and-left, and-right, every-at, below-or}
 use Rattle.desk_text.specs.Parted.{EndOf, upTo}
 use Rattle.desk_text.specs.Amounts.{goodAmount}
@@ -108,10 +108,10 @@ module _ (l : List ℕ) (g : goodLine l ≡ true) where
       pub kit-pairs : Pairs l (r + 1)
       kit-pairs =
           record {
-            short = line-short
-            ; inside = omega (arith, e .high)
-            ; some = and-right (leb 1 (length (fieldAt l 2 r))) (allb filled (fieldsFrom l (r + 1))) rest-filled
-            ; good = and-right (goodAmount (fieldAt l 2 r)) (goodPairs (fieldsFrom l (r + 1))) (sym (kit-step l 2 r tag-there e) ∙ kit-good)
+            short = line-short;
+            inside = omega (arith, e .high);
+            some = and-right (leb 1 (length (fieldAt l 2 r))) (allb filled (fieldsFrom l (r + 1))) rest-filled;
+            good = and-right (goodAmount (fieldAt l 2 r)) (goodPairs (fieldsFrom l (r + 1))) (sym (kit-step l 2 r tag-there e) ∙ kit-good);
           }
         where
           rest-filled : (leb 1 (length (fieldAt l 2 r)) && allb filled (fieldsFrom l (r + 1))) ≡ true

@@ -6,51 +6,36 @@ use Rattle.desk_lines.proofs.Answering.{printed-refused, printed-done, 
 use borrow.Author.Needs.{needs}
 use Rattle.desk_lines.proofs.put_written.Statement.{statement}
 use Rattle.desk_lines.proofs.put_written.Tie as tie
-use Rattle.desk_lines.proofs.put_written.Reads as reads
-use Rattle.desk_lines.proofs.put_written.Lts as lts
-use Rattle.desk_lines.proofs.answer_number.Reads as answer-number-reads
-use Rattle.desk_lines.proofs.answer_value.Reads as answer-value-reads
-use Rattle.desk_lines.proofs.put_answer.Reads as put-answer-reads
-use Rattle.desk_text.proofs.put_sheet.Reads as put-sheet-reads
 
--- src/lib.rt:142:8
 answer-number-requires : tie.Need-answer-number-requires
 answer-number-requires c κs = search needs
 
--- src/lib.rt:143:9
 put-answer-requires : tie.Need-put-answer-requires
 put-answer-requires c κs = search needs
 
--- src/lib.rt:143:9
 same-length : tie.Need-same-length
 same-length c = search needs
 
--- src/lib.rt:143:9
 returns : tie.Need-returns
 returns c = let a = c .before .before .before .before .before .before .before .before .args in
     printed-refused (a .a) (a .sheet .now) writes sheetText (c .before .before .before .before .before .answer-number .result) (c .before .before .before .before .before .answer-number .ensures) (c .before .before .before .before .if1 .taken) (c .before .before .put-answer .ensures)
 
--- src/lib.rt:145:9
 answer-value-requires : tie.Need-answer-value-requires
 answer-value-requires c κs = search needs
 
--- src/lib.rt:146:39
 slice-aggregate-put-sheet : tie.Need-slice-aggregate-put-sheet
 slice-aggregate-put-sheet c = let a = c .before .before .before .before .before .before .before .args in
     sym (done-length (a .a) (a .sheet .now) _ _ (c .before .before .before .before .answer-number .ensures) (c .before .before .before .if1 .left) (c .before .before .answer-value .ensures) (c .before .before .before .before .before .before .before .pre .1))
 
--- src/lib.rt:146:5
 put-sheet-requires : tie.Need-put-sheet-requires
 put-sheet-requires c κs = let a = c .before .before .before .before .before .before .before .args in
     let n = done-length (a .a) (a .sheet .now) _ _ (c .before .before .before .before .answer-number .ensures) (c .before .before .before .if1 .left) (c .before .before .answer-value .ensures) (c .before .before .before .before .before .before .before .pre .1) in
     let m = done-inside (a .a) (a .sheet .now) _ _ (c .before .before .before .before .answer-number .ensures) (c .before .before .before .if1 .left) (c .before .before .answer-value .ensures) (c .before .before .before .before .before .before .before .pre .1) in
     omega (arith, c .before .before .before .before .before .before .before .pre .0)
 
--- src/lib.rt:138:1
 same-length-2 : tie.Need-same-length-2
 same-length-2 c = search needs
 
--- src/lib.rt:138:1
 returns-2 : tie.Need-returns-2
 unfolding sheetText
 returns-2 c = let a = c .before .before .before .before .before .before .before .before .before .before .args in

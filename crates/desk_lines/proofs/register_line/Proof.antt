@@ -1,66 +1,49 @@
-use mathlib.Core.Path.{_≡_, sym, ap, _∙_, refl, subst}
-use mathlib.Core.List.{List, []}
+use mathlib.Core.Path.{sym, subst}
+use mathlib.Core.List.{List}
 use Prim.Native.Nat.{ℕ}
-use native.Mathlib.Omega.{arith}
-use lib.ListN.{length}
 use Rattle.register.specs.Inner.{Ready}
-use Rattle.register.specs.Calls.{registering, registeredReply}
-use Rattle.desk_text.proofs.Replies.{put-same}
+use Rattle.register.specs.Calls.{registeredReply}
+use Rattle.desk_replies.proofs.Replies.{put-same}
 use Rattle.desk_lines.proofs.Good.{number-there, number-typed}
 use Rattle.desk_lines.proofs.Answering.{ready-kept, register-put}
 use borrow.Author.Needs.{needs}
 use Rattle.desk_lines.proofs.register_line.Statement.{statement}
 use Rattle.desk_lines.proofs.register_line.Tie as tie
-use Rattle.desk_lines.proofs.register_line.Reads as reads
-use Rattle.desk_lines.proofs.register_line.Lts as lts
-use Rattle.desk_lines.proofs.registered_number.Reads as registered-number-reads
-use Rattle.desk_lines.proofs.registered_value.Reads as registered-value-reads
-use Rattle.desk_text.proofs.put_reply.Reads as put-reply-reads
-use Rattle.register.proofs.register_in.Reads as register-in-reads
 
--- src/lib.rt:142:30
 sub-register-in : tie.Need-sub-register-in
 sub-register-in c = number-there _ (c .before .before .before .before .before .pre .0 .good) (c .before .before .before .before .before .pre .0 .letter)
 
--- src/lib.rt:142:30
 part-register-in-start : tie.Need-part-register-in-start
 part-register-in-start c = number-there _ (c .before .before .before .before .before .pre .0 .good) (c .before .before .before .before .before .pre .0 .letter)
 
--- src/lib.rt:142:30
 part-register-in-end : tie.Need-part-register-in-end
 part-register-in-end c = search needs
 
--- src/lib.rt:142:9
 register-in-requires : tie.Need-register-in-requires
 register-in-requires c κs = search needs
 
--- src/lib.rt:143:42
 registered-number-requires : tie.Need-registered-number-requires
 registered-number-requires c κs = search needs
 
--- src/lib.rt:143:64
 registered-value-requires : tie.Need-registered-value-requires
 registered-value-requires c κs = search needs
 
--- src/lib.rt:143:5
 put-reply-requires : tie.Need-put-reply-requires
 put-reply-requires c κs = search needs
 
--- src/lib.rt:138:1
 same-length : tie.Need-same-length
 same-length c = search needs
 
--- src/lib.rt:138:1
 same-length-2 : tie.Need-same-length-2
 same-length-2 c = search needs
 
--- src/lib.rt:138:1
 returns : tie.Need-returns
 returns c = let a = c .before .before .before .before .before .before .before .before .before .before .before .before .before .before .before .args in
     let n = number-typed (a .line .now) (c .before .before .before .before .before .before .before .before .before .before .before .before .before .before .before .pre .0 .good) (c .before .before .before .before .before .before .before .before .before .before .before .before .before .before .before .pre .0 .letter) in
-    let p = c .before .before .before .before .before .before .before .before .register-in .ensures in
-    (register-put (a .line .now) (a .reg .now) (a .nodes .now) _ (registeredReply (c .before .before .before .before .before .before .before .before .register-in .result)) _ (sym n) p (put-same (c .before .before .put-reply .ensures) (cc)),
-    subst (λ (m : List ℕ). Ready m) (sym (p .lent)) (ready-kept _ (a .reg .now) (c .before .before .before .before .before .before .before .before .before .before .before .before .before .before .before .pre .1 .0)))
+    let p = c .before .before .before .before .before .before .before .before .register-in .ensures in (
+      register-put (a .line .now) (a .reg .now) (a .nodes .now) _ (registeredReply (c .before .before .before .before .before .before .before .before .register-in .result)) _ (sym n) p (put-same (c .before .before .put-reply .ensures) (cc)),
+      subst (λ (m : List ℕ). Ready m) (sym (p .lent)) (ready-kept _ (a .reg .now) (c .before .before .before .before .before .before .before .before .before .before .before .before .before .before .before .pre .1 .0)),
+    )
 
 pub register-line-spec : {M : Type 1} → statement M
 register-line-spec =

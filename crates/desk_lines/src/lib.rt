@@ -7,28 +7,29 @@ ghost use lib.ListN.{length};
 ghost use Rattle.ground.specs.Calls.{numberOf, valueOf};
 ghost use Rattle.register.specs.Inner.{Ready};
 ghost use Rattle.register.specs.Calls.{registeredReply};
-ghost use Rattle.catalogue.specs.Calls.{tables};
-ghost use Rattle.catalogue.specs.Answers.{reply};
+ghost use Rattle.kits.specs.Kits.{lineValue};
+ghost use Rattle.lent.specs.Lent.{tables};
+ghost use Rattle.lent.specs.Answers.{reply};
 ghost use Rattle.desk_text.specs.Lines.{goodLine};
 ghost use Rattle.desk_text.specs.Letters.{registers, inserts};
 ghost use Rattle.desk_text.specs.Letters.{writes as writesLetter};
-ghost use Rattle.desk_text.specs.Replies.{replyLine, tagsOf, headRoom, tagRoom, Put};
+ghost use Rattle.desk_replies.specs.Replies.{replyLine, tagsOf, headRoom, tagRoom, Put};
 ghost use Rattle.desk_lists.specs.Typed.{Pairs};
 ghost use Rattle.desk_lines.specs.Desk.{sheetText, registerLine, writeLine, insertLine, asked, askLine, atDesk};
 ghost use Rattle.desk_lines.specs.Inner.{Room, Begins, Answers, setDownBy, printed, stopNumber};
-use catalogue::Answer;
-use desk_lists::read_list;
 use desk_lists::Read;
+use desk_lists::read_list;
+use desk_replies::put_listing;
+use desk_replies::put_other;
+use desk_replies::put_reply;
+use desk_replies::put_sheet;
 use desk_text::end_of;
 use desk_text::good_line;
-use desk_text::put_listing;
-use desk_text::put_other;
-use desk_text::put_reply;
-use desk_text::put_sheet;
 use desk_text::read_amount;
 use ground::wide16;
-use register::register_in;
+use lent::Answer;
 use register::Registered;
+use register::register_in;
 
 // A pair takes four bytes of a line at least, so a line's list is no longer than this.
 const LIST_WORDS: usize = 256;
@@ -84,6 +85,13 @@ fn answer_number(a: Answer) -> usize
     }
 }
 
+// The value of a list's fault in a line.
+fn line_value(line: usize) -> usize
+    ensures { λ n. ⌜ n ≡ lineValue line ⌝ }
+{
+    0
+}
+
 fn answer_value(a: Answer) -> usize
     ensures { λ n. ⌜ n ≡ valueOf (reply a) ⌝ }
 {
@@ -91,9 +99,9 @@ fn answer_value(a: Answer) -> usize
         Answer::Done(v) => v,
         Answer::WrongLength => 0,
         Answer::NotSound => 0,
-        Answer::Unordered(_) => 0,
-        Answer::Unregistered(_) => 0,
-        Answer::Amount(_) => 0,
+        Answer::Unordered(k) => line_value(k),
+        Answer::Unregistered(k) => line_value(k),
+        Answer::Amount(k) => line_value(k),
         Answer::TooMany => 0,
         Answer::NoTag => 0,
         Answer::Held(t) => wide16(t),
@@ -152,7 +160,12 @@ fn register_line(line: &[u8], reg: &mut [u8], nodes: &[u16], out: &mut [u8]) -> 
     ensures { λ r. ⌜ Answers (registerLine (now (line .entry)) (tables (now (reg .entry)) (now (nodes .entry)))) (now (out .entry)) r (now (out .exit)) (tables (now (reg .exit)) (now (nodes .entry))) ⌝ ∗ ⌜ Ready (now (reg .exit)) ⌝ }
 {
     let a = register_in(reg, &line[BEHIND_LETTER..]);
-    put_reply(out, desk_text::REGISTERS, registered_number(a), registered_value(a))
+    put_reply(
+        out,
+        desk_text::REGISTERS,
+        registered_number(a),
+        registered_value(a),
+    )
 }
 
 // "W writes".
@@ -181,7 +194,14 @@ fn insert_line(line: &[u8], reg: &[u8], nodes: &mut [u16], out: &mut [u8]) -> us
 }
 
 // "F finds; D deletes; B any within; S any containing; b and s list all".
-fn ask(letter: u8, list: &[u16], reg: &[u8], nodes: &mut [u16], places: &mut [u16], out: &mut [u8]) -> usize
+fn ask(
+    letter: u8,
+    list: &[u16],
+    reg: &[u8],
+    nodes: &mut [u16],
+    places: &mut [u16],
+    out: &mut [u8],
+) -> usize
     requires { ⌜ headRoom + tagRoom * length (now places) + 1 ≤ length (now out) ⌝ }
     ensures { λ r. ⌜ Answers (asked letter (now (places .entry)) (tables (now (reg .entry)) (now (nodes .entry))) (now (list .entry))) (now (out .entry)) r (now (out .exit)) (tables (now (reg .entry)) (now (nodes .exit))) ⌝ }
 {
@@ -206,7 +226,14 @@ fn ask(letter: u8, list: &[u16], reg: &[u8], nodes: &mut [u16], places: &mut [u1
 }
 
 // A line that asks something of a list.
-fn ask_line(letter: u8, line: &[u8], reg: &[u8], nodes: &mut [u16], places: &mut [u16], out: &mut [u8]) -> usize
+fn ask_line(
+    letter: u8,
+    line: &[u8],
+    reg: &[u8],
+    nodes: &mut [u16],
+    places: &mut [u16],
+    out: &mut [u8],
+) -> usize
     requires { ⌜ Pairs (now line) 2 ⌝ ∗ ⌜ goodLine (now line) ≡ true ⌝ ∗ ⌜ Ready (now reg) ⌝ ∗ ⌜ headRoom + tagRoom * length (now places) + 1 ≤ length (now out) ⌝ }
     ensures { λ r. ⌜ Answers (askLine letter (now (line .entry)) (now (places .entry)) (tables (now (reg .entry)) (now (nodes .entry)))) (now (out .entry)) r (now (out .exit)) (tables (now (reg .entry)) (now (nodes .exit))) ⌝ }
 {
@@ -219,7 +246,14 @@ fn ask_line(letter: u8, line: &[u8], reg: &[u8], nodes: &mut [u16], places: &mut
 }
 
 // Answers a line: the reply stands at the start of the output, and its length is returned.
-pub fn answer_line(line: &[u8], reg: &mut [u8], nodes: &mut [u16], places: &mut [u16], sheet: &mut [u8], out: &mut [u8]) -> usize
+pub fn answer_line(
+    line: &[u8],
+    reg: &mut [u8],
+    nodes: &mut [u16],
+    places: &mut [u16],
+    sheet: &mut [u8],
+    out: &mut [u8],
+) -> usize
     requires { ⌜ Ready (now reg) ⌝ ∗ ⌜ Room (now places) (now sheet) (now out) ⌝ }
     ensures { λ r. ⌜ Answers (atDesk (now (line .entry)) (now (places .entry)) (now (sheet .entry)) (tables (now (reg .entry)) (now (nodes .entry)))) (now (out .entry)) r (now (out .exit)) (tables (now (reg .exit)) (now (nodes .exit))) ⌝ ∗ ⌜ Ready (now (reg .exit)) ⌝ }
 {

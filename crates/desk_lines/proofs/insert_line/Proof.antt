@@ -1,10 +1,7 @@
-use mathlib.Core.Path.{_≡_, sym, ap, _∙_, refl}
-use mathlib.Core.List.{[]}
-use native.Mathlib.Omega.{arith}
-use lib.ListN.{length, take}
+use mathlib.Core.Path.{sym}
 use lib.Seq.{length-take-le}
-use Rattle.catalogue.specs.Calls.{tables}
-use Rattle.catalogue.specs.Answers.{reply}
+use Rattle.lent.specs.Lent.{tables}
+use Rattle.lent.specs.Answers.{reply}
 use Rattle.desk_text.specs.Lines.{fieldsFrom}
 use Prim.Native.Nat.{_+_}
 use Rattle.desk_text.proofs.Lines.{fieldAt}
@@ -14,69 +11,46 @@ use Rattle.desk_lines.proofs.Answering.{insert-typed, insert-stopped, w
 use borrow.Author.Needs.{needs}
 use Rattle.desk_lines.proofs.insert_line.Statement.{statement}
 use Rattle.desk_lines.proofs.insert_line.Tie as tie
-use Rattle.desk_lines.proofs.insert_line.Reads as reads
-use Rattle.desk_lines.proofs.insert_line.Lts as lts
-use Rattle.catalogue.proofs.insert.Reads as insert-reads
-use Rattle.desk_lines.proofs.put_answer.Reads as put-answer-reads
-use Rattle.desk_lines.proofs.stop_number.Reads as stop-number-reads
-use Rattle.desk_lists.proofs.read_list.Reads as read-list-reads
-use Rattle.desk_text.proofs.end_of.Reads as end-of-reads
-use Rattle.desk_text.proofs.put_reply.Reads as put-reply-reads
-use Rattle.desk_text.proofs.read_amount.Reads as read-amount-reads
 
--- src/lib.rt:161:9
 end-of-requires : tie.Need-end-of-requires
 end-of-requires c κs = tag-there _ (c .before .before .before .before .pre .0 .good) (c .before .before .before .before .pre .0 .letter)
 
--- src/lib.rt:162:27
 sub-read-amount : tie.Need-sub-read-amount
 sub-read-amount c = search needs
 
--- src/lib.rt:162:27
 part-read-amount-start : tie.Need-part-read-amount-start
 part-read-amount-start c = search needs
 
--- src/lib.rt:162:27
 part-read-amount-end : tie.Need-part-read-amount-end
 part-read-amount-end c = search needs
 
--- src/lib.rt:162:9
 read-amount-requires : tie.Need-read-amount-requires
 read-amount-requires c κs = search needs
 
--- src/lib.rt:163:32
 add-read-list : tie.Need-add-read-list
 add-read-list c = search needs
 
--- src/lib.rt:163:46
 slice-aggregate-read-list : tie.Need-slice-aggregate-read-list
 slice-aggregate-read-list c = search needs
 
--- src/lib.rt:163:9
 read-list-requires : tie.Need-read-list-requires
 read-list-requires c κs = (kit-pairs _ (c .before .before .before .before .before .before .before .before .pre .0 .good) (c .before .before .before .before .before .before .before .before .pre .0 .letter) _ (c .before .before .before .end-of .ensures), (c .before .before .before .before .before .before .before .before .pre .1 .0, search needs))
 
--- src/lib.rt:164:20
 enum-known-read : tie.Need-enum-known-read
 enum-known-read c = search needs
 
--- src/lib.rt:165:26
 enum-told : tie.Need-enum-told
 enum-told c = search needs
 
--- src/lib.rt:165:51
 stop-number-requires : tie.Need-stop-number-requires
 stop-number-requires c κs = search needs
 
--- src/lib.rt:165:9
 put-reply-requires : tie.Need-put-reply-requires
 put-reply-requires c κs = search needs
 
--- src/lib.rt:165:9
 same-length : tie.Need-same-length
 same-length c = search needs
 
--- src/lib.rt:165:9
 returns : tie.Need-returns
 returns c = let a = c .before .before .before .before .before .before .before .before .before .before .before .before .before .before .before .before .before .args in
     let l = a .line .now in
@@ -84,31 +58,24 @@ returns c = let a = c .before .before .before .before .before .before .before .b
     insert-stopped l T (c .before .before .before .before .before .before .before .before .read-list .result) _ (fieldsFrom l (c .before .before .before .before .before .before .before .before .before .before .before .before .end-of .result + 1)) (c .before .before .before .before .before .before .before .before .read-list .ensures .says) (fieldAt l 2 (c .before .before .before .before .before .before .before .before .before .before .before .before .end-of .result)) (tag-first l (c .before .before .before .before .before .before .before .before .before .before .before .before .before .before .before .before .before .pre .0 .good) (c .before .before .before .before .before .before .before .before .before .before .before .before .before .before .before .before .before .pre .0 .letter) _ (c .before .before .before .before .before .before .before .before .before .before .before .before .end-of .ensures))
     _ (c .before .before .before .stop-number .result) (c .before .before .before .before .before .enum-told .given .1) (c .before .before .before .stop-number .ensures) (c .before .before .put-reply .ensures)
 
--- src/lib.rt:167:43
 array-share-prefix-list : tie.Need-array-share-prefix-list
 array-share-prefix-list c = words-inside _ _ _ (c .before .before .read .given .1) (c .before .before .before .before .before .read-list .ensures .inside)
 
--- src/lib.rt:167:43
 slice-aggregate-insert : tie.Need-slice-aggregate-insert
 slice-aggregate-insert c = sym (length-take-le _ _ (words-inside _ _ _ (c .before .before .before .read .given .1) (c .before .before .before .before .before .before .read-list .ensures .inside)))
 
--- src/lib.rt:167:9
 insert-requires : tie.Need-insert-requires
 insert-requires c κs = search needs
 
--- src/lib.rt:168:5
 put-answer-requires : tie.Need-put-answer-requires
 put-answer-requires c κs = search needs
 
--- src/lib.rt:156:1
 same-length-2 : tie.Need-same-length-2
 same-length-2 c = search needs
 
--- src/lib.rt:156:1
 same-length-3 : tie.Need-same-length-3
 same-length-3 c = search needs
 
--- src/lib.rt:156:1
 returns-2 : tie.Need-returns-2
 returns-2 c = let a = c .before .before .before .before .before .before .before .before .before .before .before .before .before .before .before .before .before .before .before .before .before .before .args in
     let l = a .line .now in

@@ -1,81 +1,58 @@
-use mathlib.Core.Path.{_≡_, sym, ap, _∙_, refl}
-use native.Mathlib.Omega.{arith}
-use lib.ListN.{length, take}
+use mathlib.Core.Path.{sym}
 use lib.Seq.{length-take-le}
-use Rattle.catalogue.specs.Calls.{tables}
+use Rattle.lent.specs.Lent.{tables}
 use Rattle.desk_text.specs.Lines.{fieldsFrom}
 use Rattle.desk_lines.proofs.Good.{behind-letter}
 use Rattle.desk_lines.proofs.Answering.{ask-typed, ask-stopped, words-inside}
 use borrow.Author.Needs.{needs}
 use Rattle.desk_lines.proofs.ask_line.Statement.{statement}
 use Rattle.desk_lines.proofs.ask_line.Tie as tie
-use Rattle.desk_lines.proofs.ask_line.Reads as reads
-use Rattle.desk_lines.proofs.ask_line.Lts as lts
-use Rattle.desk_lines.proofs.ask.Reads as ask-reads
-use Rattle.desk_lines.proofs.stop_number.Reads as stop-number-reads
-use Rattle.desk_lists.proofs.read_list.Reads as read-list-reads
-use Rattle.desk_text.proofs.put_reply.Reads as put-reply-reads
 
--- src/lib.rt:202:52
 slice-aggregate-read-list : tie.Need-slice-aggregate-read-list
 slice-aggregate-read-list c = search needs
 
--- src/lib.rt:202:9
 read-list-requires : tie.Need-read-list-requires
 read-list-requires c κs = search needs
 
--- src/lib.rt:203:20
 enum-known-read : tie.Need-enum-known-read
 enum-known-read c = search needs
 
--- src/lib.rt:204:26
 enum-told : tie.Need-enum-told
 enum-told c = search needs
 
--- src/lib.rt:204:39
 stop-number-requires : tie.Need-stop-number-requires
 stop-number-requires c κs = search needs
 
--- src/lib.rt:204:9
 put-reply-requires : tie.Need-put-reply-requires
 put-reply-requires c κs = search needs
 
--- src/lib.rt:204:9
 same-length : tie.Need-same-length
 same-length c = search needs
 
--- src/lib.rt:204:9
 returns : tie.Need-returns
 returns c = let a = c .before .before .before .before .before .before .before .before .before .before .before .before .before .before .before .args in
     let l = a .line .now in
     ask-stopped l (tables (a .reg .now) (a .nodes .now)) (c .before .before .before .before .before .before .before .before .read-list .result) _ (fieldsFrom l 2) (c .before .before .before .before .before .before .before .before .read-list .ensures .says) (a .letter) (a .places .now) (behind-letter l (c .before .before .before .before .before .before .before .before .before .before .before .before .before .before .before .pre .1 .0))
     _ (c .before .before .before .stop-number .result) (c .before .before .before .before .before .enum-told .given .1) (c .before .before .before .stop-number .ensures) (c .before .before .put-reply .ensures)
 
--- src/lib.rt:206:17
 array-share-prefix-list : tie.Need-array-share-prefix-list
 array-share-prefix-list c = words-inside _ _ _ (c .before .read .given .1) (c .before .before .before .before .read-list .ensures .inside)
 
--- src/lib.rt:206:17
 slice-aggregate-ask : tie.Need-slice-aggregate-ask
 slice-aggregate-ask c = sym (length-take-le _ _ (words-inside _ _ _ (c .before .before .read .given .1) (c .before .before .before .before .before .read-list .ensures .inside)))
 
--- src/lib.rt:206:5
 ask-requires : tie.Need-ask-requires
 ask-requires c κs = search needs
 
--- src/lib.rt:197:1
 same-length-2 : tie.Need-same-length-2
 same-length-2 c = search needs
 
--- src/lib.rt:197:1
 same-length-3 : tie.Need-same-length-3
 same-length-3 c = search needs
 
--- src/lib.rt:197:1
 same-length-4 : tie.Need-same-length-4
 same-length-4 c = search needs
 
--- src/lib.rt:197:1
 returns-2 : tie.Need-returns-2
 returns-2 c = let a = c .before .before .before .before .before .before .before .before .before .before .before .before .before .before .before .before .before .before .before .before .before .before .args in
     let l = a .line .now in

@@ -1,15 +1,15 @@
 -- What each kind of line answers: from the promises of the calls and the bytes set down to the desk's definitions.
 use mathlib.Core.Path.{_≡_, refl, ap, sym, _∙_}
-use mathlib.Core.Bool.{Bool, true, false, cond}
+use mathlib.Core.Bool.{true, false}
 use mathlib.Core.List.{List, [], _∷_, _++_}
-use Prim.Native.Nat.{ℕ, _+_, _*_, _≤_, _<_}
+use Prim.Native.Nat.{ℕ, _≤_}
 use native.Mathlib.Omega.{arith}
 use lib.ListN.{length, getD, take, drop}
 use lib.Seq.{length-take-le}
 use borrow.Author.Tests.{eq-eqb, ne-eqb, ltb-false}
-use lib.Dec.{eqb, ltb}
+use lib.Dec.{ltb}
 use Rattle.ground.specs.Laid.{laid}
-use Rattle.ground.specs.Calls.{Case, given, Plan, plan, Reply, done, refused, numberOf, valueOf, decide, answer, leaves, memory, Promise, setDown}
+use Rattle.ground.specs.Calls.{Case, given, Plan, Reply, done, refused, numberOf, valueOf, decide, answer, leaves, memory, Promise, setDown}
 use Rattle.ground.proofs.Calls.{leaves-done, leaves-refused, refusal-keeps, done-passes}
 use Rattle.ground.proofs.Laid.{length-laid}
 use Rattle.register.specs.Register.{registerLength}
@@ -17,19 +17,20 @@ use Rattle.register.specs.Inner.{Ready}
 use Rattle.register.specs.Calls.{registering}
 use Rattle.register.proofs.Laws.{sound-after-registering, length-after-registering}
 use Rattle.questions.specs.Questions.{isWithin, isContaining}
-use Rattle.catalogue.specs.Calls.{Tables, tables, onRegister, inserting, finding, deleting, anyKit, allKits, writing}
-use Rattle.catalogue.specs.Answers.{reply}
-use Rattle.catalogue.specs.declared.Answer.{Answer}
-use Rattle.catalogue.specs.declared.Answer.the-variants as answered
+use Rattle.lent.specs.Lent.{Tables, tables}
+use Rattle.catalogue.specs.Calls.{onRegister, inserting, finding, deleting, anyKit, allKits, writing}
+use Rattle.lent.specs.Answers.{reply}
+use Rattle.lent.specs.declared.Answer.{Answer}
+use Rattle.lent.specs.declared.Answer.the-variants as answered
 use Rattle.desk_text.specs.Amounts.{amountOf}
 use Rattle.desk_text.specs.Letters as letter
 use Rattle.desk_text.specs.Lines.{goodLine, fieldsOf}
-use Rattle.desk_text.specs.Replies.{replyLine, otherLine, tagsOf, Put}
-use Rattle.desk_text.proofs.Replies.{put-same}
+use Rattle.desk_replies.specs.Replies.{replyLine, otherLine, tagsOf, Put}
+use Rattle.desk_replies.proofs.Replies.{put-same}
 use Rattle.desk_lists.specs.Typed.{Typed, typed, stopped, said, wordsRead, lookedUp}
 use Rattle.desk_lists.specs.declared.Read.{Read}
 use Rattle.desk_lists.specs.declared.Read.the-variants as read
-use Rattle.desk_lines.specs.Desk.{Answered, typedFields, called, shown, sheetText, registerLine, writeLine, withList, asked, askLine, insertLine, inserted, wellFormed, atDesk}
+use Rattle.desk_lines.specs.Desk.{Answered, typedFields, called, shown, registerLine, writeLine, withList, asked, askLine, insertLine, inserted, wellFormed, atDesk}
 use Rattle.desk_lines.specs.Inner.{Answers, setDownBy, printed, stopNumber}
 
 -- a register that is ready stays so, whatever is registered
@@ -44,8 +45,8 @@ ready-kept n R r = go (answer (registering n R)) refl
     go (refused k v) e = rw (refusal-keeps (registering n R) R k v e) r
     go (done v) e =
         record {
-          fits = same-length-allowed (memory (registering n R) R) R (length-after-registering n R v e) ∙ r .fits
-          ; sound = sound-after-registering n R v e
+          fits = same-length-allowed (memory (registering n R) R) R (length-after-registering n R v e) ∙ r .fits;
+          sound = sound-after-registering n R v e;
         }
 
 -- what is set down lies inside the output

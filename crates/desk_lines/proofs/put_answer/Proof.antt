@@ -1,30 +1,20 @@
-use Rattle.desk_text.proofs.Replies.{put-same}
+use Rattle.desk_replies.proofs.Replies.{put-same}
 use borrow.Author.Needs.{needs}
 use Rattle.desk_lines.proofs.put_answer.Statement.{statement}
 use Rattle.desk_lines.proofs.put_answer.Tie as tie
-use Rattle.desk_lines.proofs.put_answer.Reads as reads
-use Rattle.desk_lines.proofs.put_answer.Lts as lts
-use Rattle.desk_lines.proofs.answer_number.Reads as answer-number-reads
-use Rattle.desk_lines.proofs.answer_value.Reads as answer-value-reads
-use Rattle.desk_text.proofs.put_reply.Reads as put-reply-reads
 
--- src/lib.rt:112:28
 answer-number-requires : tie.Need-answer-number-requires
 answer-number-requires c κs = search needs
 
--- src/lib.rt:112:46
 answer-value-requires : tie.Need-answer-value-requires
 answer-value-requires c κs = search needs
 
--- src/lib.rt:112:5
 put-reply-requires : tie.Need-put-reply-requires
 put-reply-requires c κs = search needs
 
--- src/lib.rt:108:1
 same-length : tie.Need-same-length
 same-length c = search needs
 
--- src/lib.rt:108:1
 returns : tie.Need-returns
 returns c = put-same (c .before .before .put-reply .ensures) (cc)
 

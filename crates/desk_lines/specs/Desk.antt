@@ -1,5 +1,5 @@
 -- Document 01, "The desk program": what each line answers, and the tables afterwards, over the definitions of the calls.
-use mathlib.Core.Bool.{Bool, cond}
+use mathlib.Core.Bool.{cond}
 use mathlib.Core.List.{List, [], _∷_}
 use Prim.Native.Nat.{ℕ}
 use lib.ListN.{getD, take, drop}
@@ -7,11 +7,12 @@ use lib.Dec.{eqb}
 use Rattle.ground.specs.Calls.{Plan, answer, leaves, memory, numberOf, valueOf}
 use Rattle.register.specs.Calls.{registering}
 use Rattle.questions.specs.Questions.{isWithin, isContaining}
-use Rattle.catalogue.specs.Calls.{Tables, onRegister, inserting, finding, deleting, anyKit, allKits, writing}
+use Rattle.lent.specs.Lent.{Tables}
+use Rattle.catalogue.specs.Calls.{onRegister, inserting, finding, deleting, anyKit, allKits, writing}
 use Rattle.desk_text.specs.Amounts.{amountOf}
 use Rattle.desk_text.specs.Letters as letter
 use Rattle.desk_text.specs.Lines.{space, fieldsOf, goodLine}
-use Rattle.desk_text.specs.Replies.{hexOf, tagsOf, replyLine, otherLine}
+use Rattle.desk_replies.specs.Replies.{hexOf, tagsOf, replyLine, otherLine}
 use Rattle.desk_lists.specs.Typed.{Typed, typed, stopped, lookedUp}
 
 -- a reply, and the tables afterwards

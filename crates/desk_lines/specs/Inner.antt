@@ -1,13 +1,13 @@
 -- What the desk's functions ask of their outputs and of a line, and what they promise.
 use mathlib.Core.Path.{_≡_}
 use mathlib.Core.Bool.{true}
-use mathlib.Core.List.{List, [], _∷_}
+use mathlib.Core.List.{List, []}
 use Prim.Native.Nat.{ℕ, _+_, _*_, _≤_}
 use lib.ListN.{length, getD, take}
 use Rattle.ground.specs.Calls.{Reply, numberOf, valueOf, leaves}
-use Rattle.catalogue.specs.Calls.{Tables}
+use Rattle.lent.specs.Lent.{Tables}
 use Rattle.desk_text.specs.Lines.{goodLine}
-use Rattle.desk_text.specs.Replies.{replyLine, headRoom, tagRoom, Put}
+use Rattle.desk_replies.specs.Replies.{replyLine, headRoom, tagRoom, Put}
 use Rattle.desk_lists.specs.declared.Read.{Read}
 use Rattle.desk_lists.specs.declared.Read.the-variants as read
 use Rattle.desk_lines.specs.Desk.{Answered}

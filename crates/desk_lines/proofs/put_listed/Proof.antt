@@ -1,56 +1,40 @@
 use mathlib.Core.Path.{sym}
 use native.Mathlib.Omega.{arith}
-use Rattle.desk_text.specs.Replies.{tagsOf}
-use Rattle.desk_lines.specs.Desk.{sheetText}
+use Rattle.desk_replies.specs.Replies.{tagsOf}
 use Rattle.desk_lines.proofs.Answering.{printed-refused, printed-done, done-length, done-inside}
 use borrow.Author.Needs.{needs}
 use Rattle.desk_lines.proofs.put_listed.Statement.{statement}
 use Rattle.desk_lines.proofs.put_listed.Tie as tie
-use Rattle.desk_lines.proofs.put_listed.Reads as reads
-use Rattle.desk_lines.proofs.put_listed.Lts as lts
-use Rattle.desk_lines.proofs.answer_number.Reads as answer-number-reads
-use Rattle.desk_lines.proofs.answer_value.Reads as answer-value-reads
-use Rattle.desk_lines.proofs.put_answer.Reads as put-answer-reads
-use Rattle.desk_text.proofs.put_listing.Reads as put-listing-reads
 
--- src/lib.rt:130:8
 answer-number-requires : tie.Need-answer-number-requires
 answer-number-requires c κs = search needs
 
--- src/lib.rt:131:9
 put-answer-requires : tie.Need-put-answer-requires
 put-answer-requires c κs = search needs
 
--- src/lib.rt:131:9
 same-length : tie.Need-same-length
 same-length c = search needs
 
--- src/lib.rt:131:9
 returns : tie.Need-returns
 returns c = let a = c .before .before .before .before .before .before .before .before .args in
     printed-refused (a .a) (a .places .now) (a .letter) tagsOf (c .before .before .before .before .before .answer-number .result) (c .before .before .before .before .before .answer-number .ensures) (c .before .before .before .before .if1 .taken) (c .before .before .put-answer .ensures)
 
--- src/lib.rt:133:9
 answer-value-requires : tie.Need-answer-value-requires
 answer-value-requires c κs = search needs
 
--- src/lib.rt:134:30
 slice-aggregate-put-listing : tie.Need-slice-aggregate-put-listing
 slice-aggregate-put-listing c = let a = c .before .before .before .before .before .before .before .args in
     sym (done-length (a .a) (a .places .now) _ _ (c .before .before .before .before .answer-number .ensures) (c .before .before .before .if1 .left) (c .before .before .answer-value .ensures) (c .before .before .before .before .before .before .before .pre .1))
 
--- src/lib.rt:134:5
 put-listing-requires : tie.Need-put-listing-requires
 put-listing-requires c κs = let a = c .before .before .before .before .before .before .before .args in
     let n = done-length (a .a) (a .places .now) _ _ (c .before .before .before .before .answer-number .ensures) (c .before .before .before .if1 .left) (c .before .before .answer-value .ensures) (c .before .before .before .before .before .before .before .pre .1) in
     let m = done-inside (a .a) (a .places .now) _ _ (c .before .before .before .before .answer-number .ensures) (c .before .before .before .if1 .left) (c .before .before .answer-value .ensures) (c .before .before .before .before .before .before .before .pre .1) in
     omega (arith, c .before .before .before .before .before .before .before .pre .0)
 
--- src/lib.rt:126:1
 same-length-2 : tie.Need-same-length-2
 same-length-2 c = search needs
 
--- src/lib.rt:126:1
 returns-2 : tie.Need-returns-2
 returns-2 c = let a = c .before .before .before .before .before .before .before .before .before .before .args in
     printed-done (a .a) (a .places .now) _ _ (c .before .before .before .before .before .before .before .answer-number .ensures) (c .before .before .before .before .before .before .if1 .left) (c .before .before .before .before .before .answer-value .ensures) (c .before .before .before .before .before .before .before .before .before .before .pre .1) (a .letter) tagsOf (c .before .before .put-listing .ensures)
