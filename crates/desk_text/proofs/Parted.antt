@@ -26,7 +26,7 @@ module _ (b : ℕ) (l : List ℕ) (i : ℕ) where
   upTo-end h = rw (drop-of-length-le l h)
 
 -- the stretches: the only one, and the first of more
-parted-last : (b : ℕ) (l : List ℕ) → length l ≤ upTo b l → parted b l ≡ l ∷ []
+pub parted-last : (b : ℕ) (l : List ℕ) → length l ≤ upTo b l → parted b l ≡ l ∷ []
 unfolding upTo parted inFront
 parted-last b [] h = refl
 parted-last b (x ∷ xs) h = go (eqb x b) h (parted-last b xs)
@@ -35,7 +35,7 @@ parted-last b (x ∷ xs) h = go (eqb x b) h (parted-last b xs)
     go true g f = absurd (omega arith)
     go false g f = let e = f (omega arith) in rw e
 
-parted-more : (b : ℕ) (l : List ℕ) → upTo b l < length l → parted b l ≡ take (upTo b l) l ∷ parted b (drop (suc (upTo b l)) l)
+pub parted-more : (b : ℕ) (l : List ℕ) → upTo b l < length l → parted b l ≡ take (upTo b l) l ∷ parted b (drop (suc (upTo b l)) l)
 unfolding upTo parted inFront
 parted-more b [] h = absurd (omega arith)
 parted-more b (x ∷ xs) h = go (eqb x b) h (parted-more b xs)
@@ -79,7 +79,7 @@ module _ (b : ℕ) (l : List ℕ) (at r : ℕ) (h : at ≤ length l) (e : EndOf 
       go false q = from-more (omega (arith, eqb-false r (length l) q, e .high))
 
 -- every stretch ends somewhere
-upTo-inside : (b : ℕ) (l : List ℕ) → upTo b l ≤ length l
+pub upTo-inside : (b : ℕ) (l : List ℕ) → upTo b l ≤ length l
 unfolding upTo
 upTo-inside b [] = omega arith
 upTo-inside b (x ∷ xs) = go (eqb x b) (upTo-inside b xs)
