@@ -18,6 +18,10 @@ use Rattle.desk_input.specs.Input.{allButLast, lastOf, ended, unfinished
 abbrev pub Clean : ℕ → List ℕ → Type 0
 Clean b k = upTo b k ≡ length k
 
+pub clean-none : Clean lineFeed []
+unfolding upTo
+clean-none = refl
+
 clean-first : (b x : ℕ) (k : List ℕ) → Clean b (x ∷ k) → eqb x b ≡ false
 unfolding upTo
 clean-first b x k c = go (eqb x b) c
@@ -154,10 +158,10 @@ module _ (k p : List ℕ) (c : Clean lineFeed k) where
         go P (q, qs, f) e = rw (e, f)
 
 lines-clean : (k : List ℕ) → Clean lineFeed k → linesOf k ≡ lastLine k
-unfolding linesOf upTo
+unfolding linesOf
 lines-clean k c =
-    let e : ended k ≡ [] = rw append-nil at (goes-on-ended k [] c refl) in
-    let u : unfinished k ≡ k = rw append-nil at (goes-on-unfinished k [] c refl) in
+    let e : ended k ≡ [] = rw append-nil at (goes-on-ended k [] c clean-none) in
+    let u : unfinished k ≡ k = rw append-nil at (goes-on-unfinished k [] c clean-none) in
     rw (e, u)
 
 -- what is kept of a line decides what is kept of it with more behind
@@ -175,7 +179,7 @@ unfolding keptOf
 kept-clean k c = clean-take lineFeed mostKept k c
 
 -- lines answered: f looks at no more of a line than what is kept of it
-answered-append : {A : Type 0} (f : List ℕ → A → A) (ls ms : List (List ℕ)) (a : A) → answered f (ls ++ ms) a ≡ answered f ms (answered f ls a)
+pub answered-append : {A : Type 0} (f : List ℕ → A → A) (ls ms : List (List ℕ)) (a : A) → answered f (ls ++ ms) a ≡ answered f ms (answered f ls a)
 unfolding answered
 answered-append f [] ms a = refl
 answered-append f (l ∷ ls) ms a = answered-append f ls ms (f l a)
@@ -186,7 +190,7 @@ module _ {A : Type 0} (f : List ℕ → A → A) (looks : (l : List ℕ) (a : A)
 
   -- a piece behind what is kept of a line does what it does behind the line
   module _ (k p : List ℕ) (c : Clean lineFeed k) (a : A) where
-    piece-answers : answered f (ended (keptOf k ++ p)) a ≡ answered f (ended (k ++ p)) a
+    pub piece-answers : answered f (ended (keptOf k ++ p)) a ≡ answered f (ended (k ++ p)) a
     unfolding answered
     piece-answers = go (below-or (upTo lineFeed p) (length p))
       where
@@ -199,7 +203,7 @@ module _ {A : Type 0} (f : List ℕ → A → A) (looks : (l : List ℕ) (a : A)
             let d : Clean lineFeed p = omega (arith, upTo-inside lineFeed p) in
             ap (λ ls. answered f ls a) (goes-on-ended (keptOf k) p (kept-clean k c) d ∙ sym (goes-on-ended k p c d))
 
-    piece-keeps : keptOf (unfinished (keptOf k ++ p)) ≡ keptOf (unfinished (k ++ p))
+    pub piece-keeps : keptOf (unfinished (keptOf k ++ p)) ≡ keptOf (unfinished (k ++ p))
     piece-keeps = go (below-or (upTo lineFeed p) (length p))
       where
         go : (upTo lineFeed p < length p) ⊎ (length p ≤ upTo lineFeed p) → keptOf (unfinished (keptOf k ++ p)) ≡ keptOf (unfinished (k ++ p))
@@ -208,7 +212,7 @@ module _ {A : Type 0} (f : List ℕ → A → A) (looks : (l : List ℕ) (a : A)
             let d : Clean lineFeed p = omega (arith, upTo-inside lineFeed p) in
             ap keptOf (goes-on-unfinished (keptOf k) p (kept-clean k c) d) ∙ kept-on k p ∙ ap keptOf (sym (goes-on-unfinished k p c d))
 
-  last-answers : (k : List ℕ) (a : A) → answered f (lastLine (keptOf k)) a ≡ answered f (lastLine k) a
+  pub last-answers : (k : List ℕ) (a : A) → answered f (lastLine (keptOf k)) a ≡ answered f (lastLine k) a
   unfolding answered lastLine keptOf
   last-answers [] a = refl
   last-answers (x ∷ k) a = looks (x ∷ k) a
@@ -225,5 +229,5 @@ module _ {A : Type 0} (f : List ℕ → A → A) (looks : (l : List ℕ) (a : A)
 
   -- whatever the pieces, the lines answered are those of the whole input
   pub pieces-make-lines : (ps : List (List ℕ)) (a : A) → taken f ps [] a ≡ answered f (linesOf (concat ps)) a
-  unfolding keptOf upTo
-  pieces-make-lines ps a = taken-behind ps [] refl a
+  unfolding keptOf
+  pieces-make-lines ps a = taken-behind ps [] clean-none a

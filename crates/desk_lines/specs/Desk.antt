@@ -79,3 +79,7 @@ wellFormed l o s T =
 -- "Other lines answer `?`, once each"
 unfoldable pub atDesk : List ℕ → List ℕ → List ℕ → Tables → Answered
 atDesk l o s T = cond (goodLine l) (wellFormed l o s T) (record { says = otherLine; after = T })
+
+-- the tables after a line: the same whatever outputs are lent (proofs/Left, `left-by`)
+unfoldable pub leftBy : List ℕ → Tables → Tables
+leftBy l T = atDesk l [] [] T .after

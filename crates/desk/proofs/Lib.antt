@@ -1,0 +1,2 @@
+-- The laws of serving an input that comes in pieces.
+pub mod Serving
