@@ -17,6 +17,7 @@ use Rattle.desk_input.proofs.Cutting.{Clean, clean-none, clean-append, firstLin
 use Rattle.desk_lines.specs.Desk.{leftBy}
 use Rattle.desk_lines.specs.Inner.{Room}
 use Rattle.desk_lines.proofs.Left.{overlong-leaves}
+use Rattle.desk.specs.Sizes.{outputPlaces, sheetBytes, replyBytes}
 use Rattle.desk.specs.Serving.{AtHand, Keeps, Takes, Serves}
 
 -- of an overlong line what is kept is overlong too
@@ -191,3 +192,10 @@ module _ {T : Tables} {kept : List ℕ} {n : ℕ} {U : Tables} (R : Read T kept 
       go : (k : List ℕ) → length k ≡ n → Z ≡ leftBy k U → Z ≡ answered leftBy (lastLine k) U
       go [] f g = absurd (h (sym f))
       go (x ∷ k) f g = g
+
+-- how the desk starts: nothing is kept, and there is room
+pub keeps-none : (kept : List ℕ) → mostKept ≡ length kept → Keeps kept 0
+keeps-none kept e = record { size = sym e; inside = omega arith; unended = clean-none }
+
+pub room-enough : (p s o : List ℕ) → outputPlaces ≡ length p → sheetBytes ≡ length s → replyBytes ≡ length o → Room p s o
+room-enough p s o e f g = record { listing = omega arith; written = omega arith }

@@ -1,9 +1,14 @@
 // Document 01, "The desk program": reads lines from standard input and writes a reply to each.
 ghost use mathlib.Core.Path.{_≡_};
-ghost use Prim.Native.Nat.{_<_, _≤_};
+ghost use Prim.Native.Nat.{_*_, _<_};
 ghost use lib.ListN.{length, take};
+ghost use Rattle.register.specs.Register.{slotBytes};
+ghost use Rattle.register.specs.Inner.{Ready};
+ghost use Rattle.nodes.specs.Nodes.{wordsPerNode};
 ghost use Rattle.lent.specs.Lent.{tables};
 ghost use Rattle.desk_lines.specs.Desk.{leftBy};
+ghost use Rattle.desk_input.specs.Input.{mostKept};
+ghost use Rattle.desk.specs.Sizes.{slots, nodes, outputPlaces, sheetBytes, replyBytes};
 ghost use Rattle.desk.specs.Serving.{AtHand, Keeps, Takes, Serves};
 use desk_input::keep_more;
 use desk_lines::answer_line;
@@ -16,8 +21,6 @@ const SLOTS: usize = 255;
 
 const NODES: usize = 2048;
 
-const WORDS_PER_NODE: usize = 6;
-
 const OUTPUT_PLACES: usize = 2048;
 
 const SHEET_BYTES: usize = 8192;
@@ -27,8 +30,6 @@ const KEPT_BYTES: usize = desk_text::LONGEST_LINE + 1;
 
 // Room for the longest reply, the one to W: its head, a space, two digits for each byte of the sheet, and a line feed.
 const REPLY_BYTES: usize = 16640;
-
-const PIECE_BYTES: usize = 4096;
 
 // Answers a line, and writes the reply out.
 fn reply_to(
@@ -111,14 +112,51 @@ fn serve(
     reply_to(&kept[..n], reg, nodes, places, sheet, out);
 }
 
+// The memory of the desk. Each array is made by a function, so that a caller knows it by the contract and not element by element.
+fn empty_register() -> [u8; SLOTS * register::SLOT_BYTES]
+    ensures { λ r. ⌜ (slots * slotBytes ≡ length r) × Ready r ⌝ }
+{
+    [0u8; SLOTS * register::SLOT_BYTES]
+}
+
+fn empty_nodes() -> [u16; NODES * nodes::WORDS]
+    ensures { λ r. ⌜ nodes * wordsPerNode ≡ length r ⌝ }
+{
+    [0u16; NODES * nodes::WORDS]
+}
+
+fn output_places() -> [u16; OUTPUT_PLACES]
+    ensures { λ r. ⌜ outputPlaces ≡ length r ⌝ }
+{
+    [0u16; OUTPUT_PLACES]
+}
+
+fn sheet_room() -> [u8; SHEET_BYTES]
+    ensures { λ r. ⌜ sheetBytes ≡ length r ⌝ }
+{
+    [0u8; SHEET_BYTES]
+}
+
+fn reply_room() -> [u8; REPLY_BYTES]
+    ensures { λ r. ⌜ replyBytes ≡ length r ⌝ }
+{
+    [0u8; REPLY_BYTES]
+}
+
+fn line_room() -> [u8; KEPT_BYTES]
+    ensures { λ r. ⌜ mostKept ≡ length r ⌝ }
+{
+    [0u8; KEPT_BYTES]
+}
+
 fn main() {
-    let mut reg = [0u8; SLOTS * register::SLOT_BYTES];
-    let mut nodes = [0u16; NODES * WORDS_PER_NODE];
-    let mut places = [0u16; OUTPUT_PLACES];
-    let mut sheet = [0u8; SHEET_BYTES];
-    let mut out = [0u8; REPLY_BYTES];
-    let mut kept = [0u8; KEPT_BYTES];
-    let mut piece = [0u8; PIECE_BYTES];
+    let mut reg = empty_register();
+    let mut nodes = empty_nodes();
+    let mut places = output_places();
+    let mut sheet = sheet_room();
+    let mut out = reply_room();
+    let mut kept = line_room();
+    let mut piece = io::buffer();
     serve(
         &mut kept,
         &mut piece,

@@ -5,48 +5,34 @@ use mathlib.Core.Path.{sym, _∙_}
 use borrow.Author.Needs.{needs}
 use Rattle.desk.proofs.reply_to.Statement.{statement}
 use Rattle.desk.proofs.reply_to.Tie as tie
-use Rattle.desk.proofs.reply_to.Reads as reads
-use Rattle.desk.proofs.reply_to.Lts as lts
-use Rattle.desk_lines.proofs.answer_line.Reads as answer-line-reads
-use Rattle.io.proofs.write_all.Reads as write-all-reads
 
--- src/main.rt:38:9
 answer-line-requires : tie.Need-answer-line-requires
 answer-line-requires c κs = search needs
 
--- src/main.rt:39:34
 slice-reshare-prefix-write-all : tie.Need-slice-reshare-prefix-write-all
 slice-reshare-prefix-write-all c = reply-inside _ _ _ _ _ (c .before .before .before .before .before .before .before .before .before .before .answer-line .ensures .0) (c .before .before .before .before .before .before .before .before .before .before .answer-line .kept .1 .1 .1 .1 .1 .0)
 
--- src/main.rt:39:34
 slice-aggregate-write-all : tie.Need-slice-aggregate-write-all
 slice-aggregate-write-all c = sym (length-take-le _ _ (reply-inside _ _ _ _ _ (c .before .before .before .before .before .before .before .before .before .before .before .answer-line .ensures .0) (c .before .before .before .before .before .before .before .before .before .before .before .answer-line .kept .1 .1 .1 .1 .1 .0)))
 
--- src/main.rt:39:5
 write-all-requires : tie.Need-write-all-requires
 write-all-requires c κs = search needs
 
--- src/main.rt:34:1
 same-length : tie.Need-same-length
 same-length c = search needs
 
--- src/main.rt:34:1
 same-length-2 : tie.Need-same-length-2
 same-length-2 c = search needs
 
--- src/main.rt:34:1
 same-length-3 : tie.Need-same-length-3
 same-length-3 c = search needs
 
--- src/main.rt:34:1
 same-length-4 : tie.Need-same-length-4
 same-length-4 c = search needs
 
--- src/main.rt:34:1
 same-length-5 : tie.Need-same-length-5
 same-length-5 c = search needs
 
--- src/main.rt:34:1
 returns : tie.Need-returns
 returns c = let k = c .before .before .before .before .before .before .before .before .before .before .before .before .answer-line .kept in (
   record { ready = c .before .before .before .before .before .before .before .before .before .before .before .before .answer-line .ensures .1; room = room-kept _ _ _ _ _ _ (c .before .before .before .before .before .before .before .before .before .before .before .before .before .before .before .before .before .before .before .before .before .before .before .before .pre .room) (k .1 .1 .1 .0) (k .1 .1 .1 .1 .0) (k .1 .1 .1 .1 .1 .0) },

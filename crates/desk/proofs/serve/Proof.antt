@@ -1,5 +1,4 @@
 use mathlib.Core.Path.{_≡_, refl, sym, _∙_}
-use native.Mathlib.Omega.{arith}
 use lib.ListN.{length}
 use lib.Seq.{length-take-le}
 use borrow.Author.Needs.{needs}
@@ -8,13 +7,6 @@ use Rattle.desk.specs.Serving.{AtHand, Keeps}
 use Rattle.desk.proofs.Serving.{SameLengths, same-start, Read, none-read, more-read, nothing-left, line-left}
 use Rattle.desk.proofs.serve.Statement.{statement}
 use Rattle.desk.proofs.serve.Tie as tie
-use Rattle.desk.proofs.serve.Reads as reads
-use Rattle.desk.proofs.serve.Lts as lts
-use Rattle.desk.proofs.reply_to.Reads as reply-to-reads
-use Rattle.desk.proofs.take_piece.Reads as take-piece-reads
-use Rattle.desk.proofs.turns_left.Reads as turns-left-reads
-use Rattle.io.proofs.count.Reads as count-reads
-use Rattle.libc.proofs.read.Reads as read-reads
 
 abbrev Inv-loop : tie.InvT-loop
 Inv-loop kept₀ piece₀ reg₀ nodes₀ places₀ sheet₀ out₀ n₀ turns₀ kept piece reg nodes places sheet out n turns =

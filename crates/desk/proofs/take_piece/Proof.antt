@@ -9,11 +9,6 @@ use Rattle.lent.specs.Lent.{tables}
 use Rattle.desk.proofs.Serving.{Underway, SameLengths, same-start, starts, kept-inside, line-goes-on, line-ends, piece-done}
 use Rattle.desk.proofs.take_piece.Statement.{statement}
 use Rattle.desk.proofs.take_piece.Tie as tie
-use Rattle.desk.proofs.take_piece.Reads as reads
-use Rattle.desk.proofs.take_piece.Lts as lts
-use Rattle.desk.proofs.reply_to.Reads as reply-to-reads
-use Rattle.desk_input.proofs.keep_more.Reads as keep-more-reads
-use Rattle.desk_text.proofs.end_of.Reads as end-of-reads
 
 abbrev Inv-loop : tie.InvT-loop
 Inv-loop piece kept₀ from reg₀ nodes₀ places₀ sheet₀ out₀ n₀ at₀ kept reg nodes places sheet out n at =
