@@ -1,40 +1,31 @@
+use mathlib.Core.Path.{sym, _∙_}
 use borrow.Author.Needs.{needs}
+use Rattle.filling.specs.Filling.{tables}
+use Rattle.filling.proofs.Sheets.{reading-13}
 use Rattle.filling.proofs.read_sheet.Statement.{statement}
 use Rattle.filling.proofs.read_sheet.Tie as tie
-use Rattle.filling.proofs.read_sheet.Reads as reads
-use Rattle.filling.proofs.read_sheet.Lts as lts
-use Rattle.filling.proofs.take_in.Reads as take-in-reads
-use Rattle.judging.proofs.judge.Reads as judge-reads
 
--- src/lib.rt:104:11
 judge-requires : tie.Need-judge-requires
 judge-requires c κs = search needs
 
--- src/lib.rt:105:23
 enum-known-o : tie.Need-enum-known-o
 enum-known-o c = search needs
 
--- src/lib.rt:106:22
 enum-known-sheet : tie.Need-enum-known-sheet
 enum-known-sheet c = search needs
 
--- src/lib.rt:106:38
 take-in-requires : tie.Need-take-in-requires
-take-in-requires c κs = ?
+take-in-requires c κs = (c .before .before .before .before .before .before .before .before .before .pre .0, (c .before .before .before .before .before .before .before .before .before .pre .1, sym (c .before .before .before .sheet .given .1) ∙ c .before .before .before .before .before .judge .ensures))
 
--- src/lib.rt:100:1
 returns : tie.Need-returns
-returns c = ?
+returns c = reading-13 (c .before .before .before .before .before .before .before .args .s .now) (tables (c .before .before .before .before .before .before .before .args .reg .now) (c .before .before .before .before .before .before .before .args .nodes .now)) (c .before .o .given .0 .0) (sym (c .before .o .given .1) ∙ c .before .before .before .judge .ensures)
 
--- src/lib.rt:100:1
 same-length : tie.Need-same-length
 same-length c = search needs
 
--- src/lib.rt:100:1
 same-length-2 : tie.Need-same-length-2
 same-length-2 c = search needs
 
--- src/lib.rt:100:1
 returns-2 : tie.Need-returns-2
 returns-2 c = search needs
 
