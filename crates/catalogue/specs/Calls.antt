@@ -1,0 +1,110 @@
+-- Document 01, "Calls and what they answer": the calls that are lent both tables, each as the list of its refusals in the paper's order, its value,
+-- and what it leaves in the memory that it may write.
+use mathlib.Core.Bool.{Bool, not}
+use mathlib.Core.List.{List, [], _∷_, _++_}
+use Prim.Native.Nat.{ℕ}
+use lib.ListN.{length}
+use lib.Dec.{ltb}
+use Rattle.ground.specs.Lists.{isZero}
+use Rattle.ground.specs.Laid.{zeroed}
+use Rattle.ground.specs.Calls.{Case, given, Plan, plan, setDown}
+use Rattle.register.specs.Register.{slotCount, partsOf, registerLength, registerSound, registerOf}
+use Rattle.register.specs.Calls.{registering, lookingUp, showing}
+use Rattle.kits.specs.Kits.{mostUnits, units, listFaults}
+use Rattle.nodes.specs.Nodes.{size, nodesLength}
+use Rattle.nodes.specs.Sound.{nodesSound}
+use Rattle.nodes.specs.Held.{Kit, held, tagIn}
+use Rattle.growing.specs.Enter.{enter, lacks, enterAll}
+use Rattle.pruning.specs.Strike.{strike}
+use Rattle.index.specs.Index.{entryRefusals, missingRefusals}
+use Rattle.questions.specs.Questions.{isWithin, isContaining, anyOf, allOf}
+use Rattle.sheet.specs.Sheet.{Contents, contentsOf, encode}
+use Rattle.sheet.specs.Reading.{decode, said}
+use Rattle.sheet.specs.Calls.{sheetRefusals}
+use Rattle.lent.specs.Lent.{Tables, tables, partCount, lengths, lentBoth, lentList}
+
+-- what the catalogue has
+abbrev pub contents : Tables → Contents
+contents T = contentsOf (T .register) (T .nodes)
+
+-- the tag of the held kit with this list, 0 where it is not held
+abbrev pub tagOf : Tables → List ℕ → ℕ
+tagOf T l = tagIn (units l) (held (T .nodes))
+
+-- "Empty both tables: zeros"; "Emptying and reading give 1 but never 2"
+unfoldable pub emptying : Tables → Plan Tables
+emptying T = plan (lengths T) 0 (tables (zeroed (T .register)) (zeroed (T .nodes)))
+
+-- "Insert list and tag: nodes newly taken": "then 8; then 4 for odd length; then line by line 4, 5, 6; then 7, 9, 10, .., 12"
+unfoldable pub inserting : List ℕ → ℕ → Tables → Plan Tables
+inserting l t T =
+    plan (lentBoth T
+    ++ (given (isZero t) 8 0
+    ∷ (listFaults (partCount T) l
+    ++ (given (ltb mostUnits (length (units l))) 7 0
+    ∷ entryRefusals (units l) t (T .nodes)))))
+    (lacks (T .nodes) 0 (units l))
+    (tables (T .register) (enter (T .nodes) 0 (units l) t))
+
+-- "Find a list, delete a list: its tag"
+unfoldable pub finding : List ℕ → Tables → Plan Tables
+finding l T = plan (lentList T l ++ missingRefusals (units l) (T .nodes)) (tagOf T l) T
+
+unfoldable pub deleting : List ℕ → Tables → Plan Tables
+deleting l T = plan (lentList T l ++ missingRefusals (units l) (T .nodes)) (tagOf T l) (tables (T .register) (strike (T .nodes) (units l)))
+
+-- "Any kit within the bin; any kit containing the list": question is isWithin or isContaining
+unfoldable pub anyKit : (List ℕ → Kit → Bool) → List ℕ → Tables → Plan Tables
+anyKit question l T = plan (lentList T l) (anyOf question l (T .nodes)) T
+
+-- "All such kits": set down at the start of a lent output of 16-bit numbers
+unfoldable pub allKits : (List ℕ → Kit → Bool) → List ℕ → Tables → List ℕ → Plan (List ℕ)
+allKits question l T o = setDown (lentList T l) (allOf question l (T .nodes)) o
+
+-- "Write the sheet at the start of a lent output: bytes written"
+unfoldable pub writing : Tables → List ℕ → Plan (List ℕ)
+writing T o = setDown (lentBoth T) (encode (contents T)) o
+
+-- "Reading leaves the tables as if emptied, then filled in sheet order"
+unfoldable pub filled : Tables → Contents → Tables
+filled T c = tables (registerOf (slotCount (T .register)) (c .parts)) (enterAll (zeroed (T .nodes)) (c .kits))
+
+-- "Read a sheet: kits read": "1 for each table, then 13, then 12"
+unfoldable pub reading : List ℕ → Tables → Plan Tables
+reading s T =
+    plan (lengths T ++ sheetRefusals s (slotCount (T .register)) (size (T .nodes)))
+    (length (said (decode s) .kits))
+    (filled T (said (decode s)))
+
+-- A call, with what is lent to it besides the tables
+pub data Call : Type 0 where
+  emptyBoth : Call
+  registerPart lookUp : List ℕ → Call
+  showAt : ℕ → Call
+  insertKit : List ℕ → ℕ → Call
+  findKit deleteKit anyWithin anyContaining : List ℕ → Call
+  allWithin allContaining : List ℕ → List ℕ → Call
+  writeSheet readSheet : List ℕ → Call
+
+-- a call on the register alone
+abbrev pub onRegister : Tables → Plan (List ℕ) → Plan Tables
+onRegister T p = plan (p .cases) (p .value) (tables (p .after) (T .nodes))
+
+-- a call that leaves the tables as they are
+abbrev pub apart : Tables → Plan (List ℕ) → Plan Tables
+apart T p = plan (p .cases) (p .value) T
+
+unfoldable pub planOf : Call → Tables → Plan Tables
+planOf emptyBoth T = emptying T
+planOf (registerPart n) T = onRegister T (registering n (T .register))
+planOf (lookUp n) T = onRegister T (lookingUp n (T .register))
+planOf (showAt p) T = onRegister T (showing p (T .register))
+planOf (insertKit l t) T = inserting l t T
+planOf (findKit l) T = finding l T
+planOf (deleteKit l) T = deleting l T
+planOf (anyWithin l) T = anyKit isWithin l T
+planOf (anyContaining l) T = anyKit isContaining l T
+planOf (allWithin l o) T = apart T (allKits isWithin l T o)
+planOf (allContaining l o) T = apart T (allKits isContaining l T o)
+planOf (writeSheet o) T = apart T (writing T o)
+planOf (readSheet s) T = reading s T

@@ -1,0 +1,138 @@
+-- The three demands of the person this is built for, as statements on the definitions of the calls. Each is proved; the name of its proof
+-- stands in front of it. "The tables and output are byte for byte what they were", "exactly when", "each once": in those words.
+use mathlib.Core.Path.{_≡_}
+use mathlib.Core.Logic.{_↔_}
+use mathlib.Core.Bool.{Bool, true}
+use mathlib.Core.List.{List, [], _∷_, _++_, List·Memᴰ}
+use Prim.Native.Nat.{ℕ, _*_, _≤_, _<_}
+use lib.ListN.{length, take, replicate}
+use Rattle.ground.specs.Limits.{mostParts}
+use Rattle.ground.specs.Calls.{Case, Plan, Reply, done, refused, answer, memory, Given}
+use Rattle.register.specs.Register.{slotBytes}
+use Rattle.kits.specs.Kits.{Within, units, before}
+use Rattle.nodes.specs.Nodes.{wordsPerNode, mostNodes, nodesLength}
+use Rattle.nodes.specs.Sound.{nodesSound}
+use Rattle.nodes.specs.Held.{Kit, listed, tagIn, dropKit}
+use Rattle.questions.specs.Questions.{isWithin, isContaining, fitting}
+use Rattle.sheet.specs.Bytes.{Bytes}
+use Rattle.sheet.specs.Sheet.{Contents, encode}
+use Rattle.sheet.specs.Reading.{decode, said}
+use Rattle.lent.specs.Lent.{Tables, tables, partCount}
+use Rattle.catalogue.specs.Calls.{contents, Call, emptyBoth, registerPart, lookUp, showAt, insertKit, findKit, deleteKit, anyWithin, anyContaining, allWithin, allContaining, writeSheet, readSheet, planOf, writing, reading}
+
+-- DEMAND 1
+-- "A call is refused in the cases laid down and in no others, with the number laid down": a call is refused with number n and value v exactly
+-- when, of its refusals in the paper's order, the first that is given has them. Proof: proofs/Demands, `refused-exactly`
+abbrev pub RefusedExactly : Type 0
+RefusedExactly = (c : Call) (T : Tables) (n v : ℕ) → (answer (planOf c T) ≡ refused n v) ↔ Given n v (planOf c T .cases)
+
+-- "and then the tables .. are byte for byte what they were"; the same of an output. Proof: `refusal-keeps`, `refusal-keeps-output`
+abbrev pub RefusalKeeps : Type 0
+RefusalKeeps = (c : Call) (T : Tables) (n v : ℕ) → answer (planOf c T) ≡ refused n v → memory (planOf c T) T ≡ T
+
+-- DEMAND 2
+-- "A kit fits a bin exactly when, for each part, the kit's quantity is no more than the bin's": the kits listed within a bin are exactly the
+-- held kits of which that is so. Proof: `fits-exactly`
+abbrev pub FitsExactly : Type 0
+FitsExactly = (bin N : List ℕ) (k : Kit) → List·Memᴰ k (fitting isWithin bin N) ↔ (List·Memᴰ k (listed N) × Within (k .row) (units bin))
+
+-- "The opposite question, which kits contain all these parts, answers by the same rule turned round". Proof: `contains-exactly`
+abbrev pub ContainsExactly : Type 0
+ContainsExactly = (wanted N : List ℕ) (k : Kit) → List·Memᴰ k (fitting isContaining wanted N) ↔ (List·Memᴰ k (listed N) × Within (units wanted) (k .row))
+
+-- each kit before all that follow it
+pub data InOrder : List Kit → Type 0 where
+  none : InOrder []
+  one : {k : Kit} → InOrder (k ∷ [])
+  more : {k j : Kit} {ks : List Kit} → before (k .row) (j .row) ≡ true → InOrder (j ∷ ks) → InOrder (k ∷ (j ∷ ks))
+
+-- "a listing shows each fitting kit once, in the fixed order". Proof: `listed-in-order`
+abbrev pub ListedInOrder : Type 0
+ListedInOrder = (question : List ℕ → Kit → Bool) (l : List ℕ) (T : Tables) → nodesLength (T .nodes) ≡ true → nodesSound (partCount T) (T .nodes) ≡ true → InOrder (fitting question l (T .nodes))
+
+-- DEMAND 3
+-- "what a catalogue has is what its accepted calls entered or read, less what later calls struck out, cleared or replaced by reading a sheet":
+-- read off the calls and their replies, never off a table
+abbrev pub has : List (List ℕ) → List Kit → Contents
+has ps ks = record { parts = ps; kits = ks }
+
+unfoldable pub accepted : Call → Contents → Contents
+accepted emptyBoth m = has [] []
+accepted (registerPart n) m = has (m .parts ++ (n ∷ [])) (m .kits)
+accepted (lookUp n) m = m
+accepted (showAt p) m = m
+accepted (insertKit l t) m = has (m .parts) (record { row = units l; tag = t } ∷ m .kits)
+accepted (findKit l) m = m
+accepted (deleteKit l) m = has (m .parts) (dropKit (units l) (m .kits))
+accepted (anyWithin l) m = m
+accepted (anyContaining l) m = m
+accepted (allWithin l o) m = m
+accepted (allContaining l o) m = m
+accepted (writeSheet o) m = m
+accepted (readSheet s) m = said (decode s)
+
+unfoldable pub step : Call → Reply → Contents → Contents
+step c (done v) m = accepted c m
+step c (refused n v) m = m
+
+unfoldable pub model : List (Call × Reply) → Contents → Contents
+model [] m = m
+model (x ∷ xs) m = model xs (step (x .0) (x .1) m)
+
+-- the tables after some calls, and what was answered
+unfoldable pub run : List Call → Tables → Tables
+run [] T = T
+run (c ∷ cs) T = run cs (memory (planOf c T) T)
+
+unfoldable pub log : List Call → Tables → List (Call × Reply)
+log [] T = []
+log (c ∷ cs) T = (c, answer (planOf c T)) ∷ log cs (memory (planOf c T) T)
+
+-- "each begun empty and brought on by its own calls, refused ones among them": with room for so many parts and nodes
+pub record Catalogue : Type 0 where
+  pub slots : ℕ
+  pub room : ℕ
+  pub calls : List Call
+
+-- of an allowed size
+pub record Allowed (a : Catalogue) : Type 0 where
+  pub some-slot : 1 ≤ a .slots
+  pub few-slots : a .slots ≤ mostParts
+  pub some-node : 1 ≤ a .room
+  pub few-nodes : a .room ≤ mostNodes
+
+unfoldable pub begun : Catalogue → Tables
+begun a = tables (replicate (a .slots * slotBytes) 0) (replicate (a .room * wordsPerNode) 0)
+
+unfoldable pub tablesOf : Catalogue → Tables
+tablesOf a = run (a .calls) (begun a)
+
+unfoldable pub entered : Catalogue → Contents
+entered a = model (log (a .calls) (begun a)) (has [] [])
+
+-- a sheet that it writes, "with enough room to write its sheet"
+pub record SheetOf (T : Tables) (s : List ℕ) : Type 0 where
+  pub output : List ℕ
+  pub written : answer (writing T output) ≡ done (length s)
+  pub is : take (length s) (memory (writing T output) output) ≡ s
+
+-- "the part lists agree in order and the kits agree with their tags"
+pub record Agree (m m′ : Contents) : Type 0 where
+  pub parts : m .parts ≡ m′ .parts
+  pub kits : (r : List ℕ) → tagIn r (m .kits) ≡ tagIn r (m′ .kits)
+
+-- "The two sheets agree in every byte exactly when the part lists agree in order and the kits agree with their tags". Proof: `sheets-tell`
+abbrev pub SheetsTell : Type 0
+SheetsTell = (a b : Catalogue) (s t : List ℕ) → Allowed a → Allowed b → SheetOf (tablesOf a) s → SheetOf (tablesOf b) t → (s ≡ t) ↔ Agree (entered a) (entered b)
+
+-- (so that this is not empty) a catalogue writes its sheet into every output with room. Proof: `sheet-is-written`
+abbrev pub SheetIsWritten : Type 0
+SheetIsWritten = (a : Catalogue) (o : List ℕ) → Allowed a → length (encode (contents (tablesOf a))) ≤ length o → SheetOf (tablesOf a) (encode (contents (tablesOf a)))
+
+-- "A sheet that was accepted and is written again, with room, is the same sheet". Proof: `same-again`
+abbrev pub SameAgain : Type 0
+SameAgain = (T : Tables) (s t : List ℕ) (k : ℕ) → Bytes s → answer (reading s T) ≡ done k → SheetOf (memory (reading s T) T) t → t ≡ s
+
+-- "and no second accepted sheet means the same". Proof: `no-second`
+abbrev pub NoSecond : Type 0
+NoSecond = (T U : Tables) (s t : List ℕ) (k n : ℕ) → Bytes s → Bytes t → answer (reading s T) ≡ done k → answer (reading t U) ≡ done n → Agree (said (decode s)) (said (decode t)) → s ≡ t

@@ -1,0 +1,186 @@
+// Document 01, "Calls and what they answer": the calls that are lent both tables. None has a `requires`: each checks all that it is lent, in the
+// paper's order, and refuses. The work behind them is done by the crates below, on tables known to be sound.
+ghost use mathlib.Core.Path.{_≡_};
+ghost use Rattle.ground.specs.Calls.{Promise, answer};
+ghost use Rattle.questions.specs.Questions.{isWithin, isContaining, listedReply};
+ghost use Rattle.index.specs.Index.{foundReply, insertedReply, deletedReply};
+ghost use Rattle.writing.specs.Written.{writtenReply};
+ghost use Rattle.lent.specs.Lent.{tables};
+ghost use Rattle.lent.specs.Answers.{reply};
+ghost use Rattle.catalogue.specs.Calls.{emptying, inserting, finding, deleting, anyKit, allKits, writing};
+use ground::wide16;
+use index::Deleted;
+use index::Found;
+use index::Inserted;
+use lent::Answer;
+use lent::check_lengths;
+use lent::check_lent;
+use lent::check_lines;
+use lent::check_tables;
+use lent::refused;
+use questions::Listed;
+use writing::Written;
+
+// Empties both tables.
+pub fn empty(reg: &mut [u8], nodes: &mut [u16]) -> Answer
+    ensures { λ r. ⌜ Promise (emptying (tables (now (reg .entry)) (now (nodes .entry)))) (tables (now (reg .entry)) (now (nodes .entry))) (reply r) (tables (now (reg .exit)) (now (nodes .exit))) ⌝ }
+{
+    let sized = check_lengths(reg, nodes);
+    if refused(sized) {
+        return sized;
+    }
+    ground::clear(reg);
+    nodes::clear_nodes(nodes);
+    Answer::Done(0)
+}
+
+fn inserted_answer(i: Inserted) -> Answer
+    ensures { λ r. ⌜ reply r ≡ insertedReply i ⌝ }
+{
+    match i {
+        Inserted::Taken(k) => Answer::Done(k),
+        Inserted::Held(t) => Answer::Held(t),
+        Inserted::TagBorne => Answer::TagBorne,
+        Inserted::NoRoom(k) => Answer::NoRoom(k),
+    }
+}
+
+// Inserts a list with a tag: the nodes newly taken.
+pub fn insert(reg: &[u8], nodes: &mut [u16], list: &[u16], tag: u16) -> Answer
+    ensures { λ r. ⌜ Promise (inserting (now (list .entry)) tag (tables (now (reg .entry)) (now (nodes .entry)))) (tables (now (reg .entry)) (now (nodes .entry))) (reply r) (tables (now (reg .entry)) (now (nodes .exit))) ⌝ }
+{
+    let lent = check_tables(reg, nodes);
+    if refused(lent) {
+        return lent;
+    }
+    if tag == 0 {
+        return Answer::NoTag;
+    }
+    let typed = check_lines(reg, list);
+    if refused(typed) {
+        return typed;
+    }
+    if !kits::has_room(list) {
+        return Answer::TooMany;
+    }
+    inserted_answer(index::insert(nodes, kits::row_of(list), tag))
+}
+
+fn found_answer(f: Found) -> Answer
+    ensures { λ r. ⌜ reply r ≡ foundReply f ⌝ }
+{
+    match f {
+        Found::Tag(t) => Answer::Done(wide16(t)),
+        Found::NotHeld => Answer::NotHeld,
+    }
+}
+
+// Finds a list: its tag. A list of more than 64 units is not held.
+pub fn find(reg: &[u8], nodes: &[u16], list: &[u16]) -> Answer
+    ensures { λ r. ⌜ reply r ≡ answer (finding (now (list .entry)) (tables (now (reg .entry)) (now (nodes .entry)))) ⌝ }
+{
+    let lent = check_lent(reg, nodes, list);
+    if refused(lent) {
+        return lent;
+    }
+    if !kits::has_room(list) {
+        return Answer::NotHeld;
+    }
+    found_answer(index::find(nodes, kits::row_of(list)))
+}
+
+fn deleted_answer(d: Deleted) -> Answer
+    ensures { λ r. ⌜ reply r ≡ deletedReply d ⌝ }
+{
+    match d {
+        Deleted::Tag(t) => Answer::Done(wide16(t)),
+        Deleted::NotHeld => Answer::NotHeld,
+    }
+}
+
+// Deletes a list: its tag.
+pub fn delete(reg: &[u8], nodes: &mut [u16], list: &[u16]) -> Answer
+    ensures { λ r. ⌜ Promise (deleting (now (list .entry)) (tables (now (reg .entry)) (now (nodes .entry)))) (tables (now (reg .entry)) (now (nodes .entry))) (reply r) (tables (now (reg .entry)) (now (nodes .exit))) ⌝ }
+{
+    let lent = check_lent(reg, nodes, list);
+    if refused(lent) {
+        return lent;
+    }
+    if !kits::has_room(list) {
+        return Answer::NotHeld;
+    }
+    deleted_answer(index::delete(nodes, kits::row_of(list)))
+}
+
+// Any kit within the bin: the tag of the first in listing order, or 0.
+pub fn any_within(reg: &[u8], nodes: &[u16], bin: &[u16]) -> Answer
+    ensures { λ r. ⌜ reply r ≡ answer (anyKit isWithin (now (bin .entry)) (tables (now (reg .entry)) (now (nodes .entry)))) ⌝ }
+{
+    let lent = check_lent(reg, nodes, bin);
+    if refused(lent) {
+        return lent;
+    }
+    Answer::Done(wide16(questions::any_within(nodes, bin)))
+}
+
+// Any kit containing the list: the tag of the first in listing order, or 0.
+pub fn any_containing(reg: &[u8], nodes: &[u16], list: &[u16]) -> Answer
+    ensures { λ r. ⌜ reply r ≡ answer (anyKit isContaining (now (list .entry)) (tables (now (reg .entry)) (now (nodes .entry)))) ⌝ }
+{
+    let lent = check_lent(reg, nodes, list);
+    if refused(lent) {
+        return lent;
+    }
+    Answer::Done(wide16(questions::any_containing(nodes, list)))
+}
+
+fn listed_answer(l: Listed) -> Answer
+    ensures { λ r. ⌜ reply r ≡ listedReply l ⌝ }
+{
+    match l {
+        Listed::Done(n) => Answer::Done(n),
+        Listed::NoRoom(n) => Answer::NoRoom(n),
+    }
+}
+
+// All kits within the bin: their tags in listing order at the start of the output.
+pub fn all_within(reg: &[u8], nodes: &[u16], bin: &[u16], out: &mut [u16]) -> Answer
+    ensures { λ r. ⌜ Promise (allKits isWithin (now (bin .entry)) (tables (now (reg .entry)) (now (nodes .entry))) (now (out .entry))) (now (out .entry)) (reply r) (now (out .exit)) ⌝ }
+{
+    let lent = check_lent(reg, nodes, bin);
+    if refused(lent) {
+        return lent;
+    }
+    listed_answer(questions::all_within(nodes, bin, out))
+}
+
+// All kits containing the list: their tags in listing order at the start of the output.
+pub fn all_containing(reg: &[u8], nodes: &[u16], list: &[u16], out: &mut [u16]) -> Answer
+    ensures { λ r. ⌜ Promise (allKits isContaining (now (list .entry)) (tables (now (reg .entry)) (now (nodes .entry))) (now (out .entry))) (now (out .entry)) (reply r) (now (out .exit)) ⌝ }
+{
+    let lent = check_lent(reg, nodes, list);
+    if refused(lent) {
+        return lent;
+    }
+    listed_answer(questions::all_containing(nodes, list, out))
+}
+
+fn written_answer(w: Written) -> Answer
+    ensures { λ r. ⌜ reply r ≡ writtenReply w ⌝ }
+{
+    match w {
+        Written::Bytes(n) => Answer::Done(n),
+        Written::NoRoom(n) => Answer::NoRoom(n),
+    }
+}
+
+// Writes the sheet at the start of the output: the bytes written.
+pub fn write_sheet(reg: &[u8], nodes: &[u16], out: &mut [u8]) -> Answer
+    ensures { λ r. ⌜ Promise (writing (tables (now (reg .entry)) (now (nodes .entry))) (now (out .entry))) (now (out .entry)) (reply r) (now (out .exit)) ⌝ }
+{
+    let lent = check_tables(reg, nodes);
+    if refused(lent) {
+        return lent;
+    }
+    written_answer(writing::write_sheet(reg, nodes, out))
+}
