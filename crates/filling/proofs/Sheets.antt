@@ -29,7 +29,8 @@ use Rattle.sheet.proofs.Written.{kit-back, record-size}
 use Rattle.sheet.proofs.Laws.{encode-decode}
 use Rattle.judging.specs.Judged.{judgedOf, sheetOf, numbersAt, endAt, recordAt}
 use Rattle.judging.specs.declared.Judged.the-variants.{Fault, Good}
-use Rattle.filling.specs.Filling.{Tables, tables, filling}
+use Rattle.lent.specs.Lent.{Tables, tables}
+use Rattle.filling.specs.Filling.{filling}
 use Rattle.filling.specs.Read.{reading, kitsRead, endRead, NumbersStand, KitsStand}
 
 -- Numbers that stand from a place on

@@ -16,7 +16,8 @@ use Rattle.sheet.specs.Sheet.{placeBytes, goodKit, rising}
 use Rattle.sheet.specs.Reading.{decode, said, recordSize, kitIn}
 use Rattle.sheet.specs.Calls.{sheetRefusals}
 use Rattle.judging.specs.Judged.{nextPlace, endAt, recordAt}
-use Rattle.filling.specs.Filling.{Tables, filling}
+use Rattle.lent.specs.Lent.{Tables}
+use Rattle.filling.specs.Filling.{filling}
 use Rattle.filling.specs.declared.ReadSheet.{ReadSheet}
 use Rattle.filling.specs.declared.ReadSheet.the-variants.{Kits, AtFault, NoSlots, NoNodes}
 

@@ -12,7 +12,7 @@ ghost use Rattle.sheet.specs.Sheet.{numberItem};
 ghost use Rattle.sheet.specs.Reading.{decode};
 ghost use Rattle.judging.specs.Judged.{judgedOf, numberHere, nextPlace, numbersAt, endAt};
 ghost use Rattle.judging.specs.declared.Judged.the-variants.{Good};
-ghost use Rattle.filling.specs.Filling.{tables};
+ghost use Rattle.lent.specs.Lent.{tables};
 ghost use Rattle.filling.specs.Read.{reading, kitsRead, readReply, NumberStands, NumbersStand, KitsStand};
 use ground::clear;
 use ground::copy_in;
