@@ -1,5 +1,5 @@
 -- Laws of filling the tables.
 pub mod Slots
-pub mod Entered
+pub mod Listed
 pub mod Kits
 pub mod Sheets

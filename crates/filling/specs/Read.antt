@@ -1,21 +1,23 @@
 -- Document 01, "Read a sheet: kits read", of tables that have right lengths; and what stands in a sheet from a place on.
 use mathlib.Core.Path.{_≡_}
-use mathlib.Core.Bool.{Bool, true}
+use mathlib.Core.Bool.{true}
 use mathlib.Core.List.{List, [], _∷_}
-use Prim.Native.Nat.{ℕ, zero, suc, _+_, _*_, _≤_, _<_}
+use Prim.Native.Nat.{ℕ, zero, suc, _+_, _≤_, _<_}
 use lib.ListN.{length, drop, getD}
 use lib.Dec.{eqb}
 use Rattle.ground.specs.Lists.{allb, distinct}
+use Rattle.ground.specs.Limits.{mostParts}
 use Rattle.ground.specs.Calls.{Plan, plan, Reply, done, refused}
 use Rattle.register.specs.Number.{longestNumber}
-use Rattle.register.specs.Register.{slotCount, mostParts, registerLength}
+use Rattle.register.specs.Register.{slotCount, registerLength}
 use Rattle.nodes.specs.Nodes.{size, nodesLength}
 use Rattle.nodes.specs.Held.{Kit, tagsOf, allBeginnings}
-use Rattle.sheet.specs.Sheet.{placeBytes, goodKit, rising, nodesNeeded}
+use Rattle.sheet.specs.Sheet.{placeBytes, goodKit, rising}
 use Rattle.sheet.specs.Reading.{decode, said, recordSize, kitIn}
 use Rattle.sheet.specs.Calls.{sheetRefusals}
-use Rattle.judging.specs.Judged.{recordAt, endAt}
-use Rattle.filling.specs.Filling.{Tables, filling}
+use Rattle.judging.specs.Judged.{nextPlace, endAt, recordAt}
+use Rattle.lent.specs.Lent.{Tables}
+use Rattle.filling.specs.Filling.{filling}
 use Rattle.filling.specs.declared.ReadSheet.{ReadSheet}
 use Rattle.filling.specs.declared.ReadSheet.the-variants.{Kits, AtFault, NoSlots, NoNodes}
 
@@ -37,6 +39,12 @@ kitsRead s at (suc m) = kitIn placeBytes (recordAt s at) ∷ kitsRead s (at + re
 unfoldable pub endRead : List ℕ → ℕ → ℕ → ℕ
 endRead s at zero = at
 endRead s at (suc m) = endRead s (at + recordSize placeBytes (drop at s)) m
+
+-- a number stands in the sheet s at a place, and a register has a slot k
+pub record NumberStands (s : List ℕ) (at k : ℕ) (R : List ℕ) : Type 0 where
+  pub inside : nextPlace s at ≤ length s
+  pub short : getD s at 0 ≤ longestNumber
+  pub slot : k < slotCount R
 
 -- n numbers stand in the sheet s, behind its head, and a register has room for them
 pub record NumbersStand (s : List ℕ) (n : ℕ) (R : List ℕ) : Type 0 where

@@ -1,37 +1,36 @@
 -- What stands in a faultless sheet is what it says; and what reading promises.
 use mathlib.Core.Path.{_≡_, refl, ap, sym, subst, _∙_}
-use mathlib.Core.Bool.{Bool, true, false, cond}
+use mathlib.Core.Bool.{true, false, cond}
 use mathlib.Core.List.{List, [], _∷_, _++_, append-assoc, append-nil}
-use Prim.Native.Nat.{ℕ, zero, suc, _+_, _-_, _*_, _^_, _≤_, _<_}
+use Prim.Native.Nat.{ℕ, zero, suc, _+_, _^_, _≤_, _<_}
 use native.Mathlib.Nat.{add-zero}
-use native.Mathlib.Numerals.{add-one}
 use native.Mathlib.Omega.{arith}
-use lib.ListN.{length, take, drop, getD, length-append, length-drop}
-use lib.Dec.{leb, ltb, eqb}
-use lib.Seq.{drop-drop, getD-drop, take-append-seam, drop-append-seam, take-at, drop-at}
+use lib.ListN.{length, take, drop, getD, length-append}
+use lib.Dec.{eqb}
+use lib.Seq.{drop-drop, getD-drop, take-append-seam, drop-append-seam}
 use borrow.Author.Tests.{lt-ltb, le-ltb, leb-true}
-use Rattle.ground.specs.Lists.{allb, every, concat, distinct}
+use Rattle.ground.specs.Lists.{allb, concat, distinct}
 use Rattle.ground.specs.Laid.{zeroed}
-use Rattle.ground.specs.Calls.{Reply, done, refused, decide, answer, Promise}
+use Rattle.ground.specs.Calls.{done, refused, decide, answer, Promise}
 use Rattle.ground.proofs.Laws.{every-at, and-left, and-right}
 use Rattle.ground.proofs.Calls.{promise-refused, promise-done}
 use Rattle.register.specs.Number.{goodNumber}
 use Rattle.register.specs.Register.{slotCount, registerLength, registerOf}
 use Rattle.register.proofs.Slots.{number-short}
 use Rattle.nodes.specs.Nodes.{size, nodesLength}
-use Rattle.nodes.specs.Held.{Kit, tagsOf, allBeginnings}
+use Rattle.nodes.specs.Held.{Kit, tagsOf}
 use Rattle.growing.specs.Enter.{enterAll}
 use Rattle.sheet.specs.Bytes.{inBytes, two, Bytes}
-use Rattle.sheet.specs.Sheet.{Contents, mark, version, placeBytes, numberItem, numberItems, recordItem, recordItems, encode, goodKit, rising, fitting, slotsNeeded, nodesNeeded}
+use Rattle.sheet.specs.Sheet.{Contents, placeBytes, numberItem, numberItems, recordItem, recordItems, encode, goodKit, rising, fitting, slotsNeeded, nodesNeeded}
 use Rattle.sheet.specs.Reading.{Item, item, fault, recordSize, kitIn, decode, isFault, offset, said}
 use Rattle.sheet.specs.Calls.{sheetRefusals, roomRefusals}
 use Rattle.sheet.specs.declared.Sheet.{Sheet}
 use Rattle.sheet.proofs.Written.{kit-back, record-size}
 use Rattle.sheet.proofs.Laws.{encode-decode}
 use Rattle.judging.specs.Judged.{judgedOf, sheetOf, numbersAt, endAt, recordAt}
-use Rattle.judging.specs.declared.Judged.{Judged}
 use Rattle.judging.specs.declared.Judged.the-variants.{Fault, Good}
-use Rattle.filling.specs.Filling.{Tables, tables, filling}
+use Rattle.lent.specs.Lent.{Tables, tables}
+use Rattle.filling.specs.Filling.{filling}
 use Rattle.filling.specs.Read.{reading, kitsRead, endRead, NumbersStand, KitsStand}
 
 -- Numbers that stand from a place on
@@ -157,8 +156,8 @@ module _ (c : Contents) (fits : fitting c ≡ true) where
   unfolding encode inBytes
   behind-head = refl
 
-  numbers-stand : Stand (encode c) 7 (c .parts)
-  numbers-stand = stand (encode c) 7 (c .parts) tail numbers-good behind-head
+  parts-stand : Stand (encode c) 7 (c .parts)
+  parts-stand = stand (encode c) 7 (c .parts) tail numbers-good behind-head
 
   abbrev first : ℕ
   first = 7 + length (numberItems (c .parts)) + 2
@@ -170,24 +169,24 @@ module _ (c : Contents) (fits : fitting c ≡ true) where
       let e : drop (7 + length P) (encode c) ≡ tail = sym (drop-drop (length P) 7 (encode c)) ∙ ap (drop (length P)) behind-head ∙ drop-append-seam P tail in
       sym (drop-drop 2 (7 + length P) (encode c)) ∙ ap (drop 2) e ∙ sym (append-nil (recordItems placeBytes (c .kits)))
 
-  kits-stand : KitsAre (encode c) first (c .kits)
-  kits-stand = kits-are (encode c) (length (c .parts)) first (c .kits) [] few-parts kits-good behind-count
+  records-stand : KitsAre (encode c) first (c .kits)
+  records-stand = kits-are (encode c) (length (c .parts)) first (c .kits) [] few-parts kits-good behind-count
 
   sheet-long : length (encode c) ≡ first + length (recordItems placeBytes (c .kits))
   unfolding encode inBytes
   sheet-long = omega (arith, length-append (numberItems (c .parts)) tail)
 
   pub parts-read : numbersAt (encode c) 7 (length (c .parts)) ≡ c .parts
-  parts-read = numbers-stand .are
+  parts-read = parts-stand .are
 
   pub first-record : endAt (encode c) 7 (length (c .parts)) + 2 ≡ first
-  first-record = omega (arith, numbers-stand .end)
+  first-record = omega (arith, parts-stand .end)
 
   pub kits-read : kitsRead (encode c) (endAt (encode c) 7 (length (c .parts)) + 2) (length (c .kits)) ≡ c .kits
-  kits-read = rw first-record (kits-stand .are)
+  kits-read = rw first-record (records-stand .are)
 
   pub numbers-ready : (R : List ℕ) → registerLength R ≡ true → slotsNeeded c ≤ slotCount R → NumbersStand (encode c) (length (c .parts)) R
-  numbers-ready R h r = record { fits = h; slots = r; inside = omega (arith, numbers-stand .end, sheet-long); short = numbers-stand .short }
+  numbers-ready R h r = record { fits = h; slots = r; inside = omega (arith, parts-stand .end, sheet-long); short = parts-stand .short }
 
   pub kits-ready : (N : List ℕ) → nodesLength N ≡ true → nodesNeeded c ≤ size N → KitsStand (encode c) (endAt (encode c) 7 (length (c .parts)) + 2) (length (c .kits)) N
   kits-ready N h r =
@@ -195,7 +194,7 @@ module _ (c : Contents) (fits : fitting c ≡ true) where
       record {
         parts = length (c .parts);
         few = few-parts;
-        inside = rw first-record (omega (arith, kits-stand .end, sheet-long));
+        inside = rw first-record (omega (arith, records-stand .end, sheet-long));
         good = rw e kits-good;
         unlike = rw e kits-unlike;
         rises = rw e kits-rise;
@@ -249,48 +248,55 @@ module _ {s : List ℕ} {sheet : Sheet} {need : ℕ} (F : Faultless s sheet need
       let l = lt-ltb (slotCount R) (length (F .says .parts)) (omega (arith, F .parts)) in
       promise-refused (reading s (tables R N)) (tables R N) 12 n (rw (f, w, l) (ap (refused 12) (sym (e ∙ F .parts))))
 
-  module _ (slots : sheet .parts ≤ slotCount R) where
-    pub reading-nodes : size N < need → Promise (reading s (tables R N)) (tables R N) (refused 12 need) (tables R N)
-    unfolding reading sheetRefusals roomRefusals answer decide
-    reading-nodes h =
-        let f = no-fault in
-        let w = what-said in
-        let l = le-ltb (slotCount R) (length (F .says .parts)) (omega (arith, F .parts)) in
-        let k = lt-ltb (size N) (nodesNeeded (F .says)) (omega (arith, F .nodes)) in
-        promise-refused (reading s (tables R N)) (tables R N) 12 need (rw (f, w, l, k) (ap (refused 12) (sym (F .nodes))))
+  pub reading-nodes : sheet .parts ≤ slotCount R → size N < need → Promise (reading s (tables R N)) (tables R N) (refused 12 need) (tables R N)
+  unfolding reading sheetRefusals roomRefusals answer decide
+  reading-nodes slots h =
+      let f = no-fault in
+      let w = what-said in
+      let l = le-ltb (slotCount R) (length (F .says .parts)) (omega (arith, F .parts)) in
+      let k = lt-ltb (size N) (nodesNeeded (F .says)) (omega (arith, F .nodes)) in
+      promise-refused (reading s (tables R N)) (tables R N) 12 need (rw (f, w, l, k) (ap (refused 12) (sym (F .nodes))))
 
-    pub reading-done : need ≤ size N → (n : ℕ) → n ≡ sheet .kits → (P Q : List ℕ) → P ≡ registerOf (slotCount R) (F .says .parts) → Q ≡ enterAll (zeroed N) (F .says .kits) → Promise (reading s (tables R N)) (tables R N) (done n) (tables P Q)
+  -- with room for both: what stands in the sheet is what it says
+  module _ (b : Bytes s) (n m : ℕ) (parts : n ≡ sheet .parts) (kits : m ≡ sheet .kits) (slots : n ≤ slotCount R) (nodes : need ≤ size N) where
+    again : (encode (F .says) ≡ s) × (fitting (F .says) ≡ true)
+    again = encode-decode s (F .says) (F .rest) (F .behind) b (F .read)
+
+    part-count : n ≡ length (F .says .parts)
+    part-count = parts ∙ F .parts
+
+    kit-count : m ≡ length (F .says .kits)
+    kit-count = kits ∙ F .kits
+
+    pub numbers-stand : registerLength R ≡ true → NumbersStand s n R
+    numbers-stand h =
+        let q = part-count in
+        subst (λ (x : List ℕ). NumbersStand x n R) (again .0) (rw q (numbers-ready (F .says) (again .1) R h (omega arith)))
+
+    pub kits-stand : nodesLength N ≡ true → KitsStand s (endAt s 7 n + 2) m N
+    kits-stand h =
+        let q = part-count in
+        let p = kit-count in
+        subst (λ (x : List ℕ). KitsStand x (endAt x 7 n + 2) m N) (again .0) (rw (q, p) (kits-ready (F .says) (again .1) N h (omega (arith, F .nodes))))
+
+    parts-said : numbersAt s 7 n ≡ F .says .parts
+    parts-said =
+        let q = part-count in
+        subst (λ (x : List ℕ). numbersAt x 7 n ≡ F .says .parts) (again .0) (rw q (parts-read (F .says) (again .1)))
+
+    kits-said : kitsRead s (endAt s 7 n + 2) m ≡ F .says .kits
+    kits-said =
+        let q = part-count in
+        let p = kit-count in
+        subst (λ (x : List ℕ). kitsRead x (endAt x 7 n + 2) m ≡ F .says .kits) (again .0) (rw (q, p) (kits-read (F .says) (again .1)))
+
+    pub reading-done : (P Q : List ℕ) → P ≡ registerOf (slotCount R) (numbersAt s 7 n) → Q ≡ enterAll (zeroed N) (kitsRead s (endAt s 7 n + 2) m) → Promise (reading s (tables R N)) (tables R N) (done m) (tables P Q)
     unfolding reading sheetRefusals roomRefusals answer decide filling
-    reading-done h n e P Q p q =
+    reading-done P Q p q =
         let f = no-fault in
         let w = what-said in
         let l = le-ltb (slotCount R) (length (F .says .parts)) (omega (arith, F .parts)) in
         let k = le-ltb (size N) (nodesNeeded (F .says)) (omega (arith, F .nodes)) in
-        promise-done (reading s (tables R N)) (tables R N) n (tables P Q) (rw (f, w, l, k) (ap done (sym (e ∙ F .kits)))) (rw (p, q, w) refl)
-
--- what stands in a sheet that was found faultless
-module _ {s : List ℕ} {sheet : Sheet} {need : ℕ} (F : Faultless s sheet need) (b : Bytes s) where
-  again : (encode (F .says) ≡ s) × (fitting (F .says) ≡ true)
-  again = encode-decode s (F .says) (F .rest) (F .behind) b (F .read)
-
-  pub good-numbers : (R : List ℕ) (n : ℕ) → n ≡ sheet .parts → registerLength R ≡ true → n ≤ slotCount R → NumbersStand s n R
-  good-numbers R n e h r =
-      let q : n ≡ length (F .says .parts) = e ∙ F .parts in
-      subst (λ (x : List ℕ). NumbersStand x n R) (again .0) (rw q (numbers-ready (F .says) (again .1) R h (omega arith)))
-
-  pub good-kits : (N : List ℕ) (n m : ℕ) → n ≡ sheet .parts → m ≡ sheet .kits → nodesLength N ≡ true → need ≤ size N → KitsStand s (endAt s 7 n + 2) m N
-  good-kits N n m e f h r =
-      let q : n ≡ length (F .says .parts) = e ∙ F .parts in
-      let p : m ≡ length (F .says .kits) = f ∙ F .kits in
-      subst (λ (x : List ℕ). KitsStand x (endAt x 7 n + 2) m N) (again .0) (rw (q, p) (kits-ready (F .says) (again .1) N h (omega (arith, F .nodes))))
-
-  pub parts-said : (n : ℕ) → n ≡ sheet .parts → numbersAt s 7 n ≡ F .says .parts
-  parts-said n e =
-      let q : n ≡ length (F .says .parts) = e ∙ F .parts in
-      subst (λ (x : List ℕ). numbersAt x 7 n ≡ F .says .parts) (again .0) (rw q (parts-read (F .says) (again .1)))
-
-  pub kits-said : (n m : ℕ) → n ≡ sheet .parts → m ≡ sheet .kits → kitsRead s (endAt s 7 n + 2) m ≡ F .says .kits
-  kits-said n m e f =
-      let q : n ≡ length (F .says .parts) = e ∙ F .parts in
-      let p : m ≡ length (F .says .kits) = f ∙ F .kits in
-      subst (λ (x : List ℕ). kitsRead x (endAt x 7 n + 2) m ≡ F .says .kits) (again .0) (rw (q, p) (kits-read (F .says) (again .1)))
+        let x : P ≡ registerOf (slotCount R) (F .says .parts) = p ∙ ap (registerOf (slotCount R)) parts-said in
+        let y : Q ≡ enterAll (zeroed N) (F .says .kits) = q ∙ ap (enterAll (zeroed N)) kits-said in
+        promise-done (reading s (tables R N)) (tables R N) m (tables P Q) (rw (f, w, l, k) (ap done (sym kit-count))) (rw (x, y, w) refl)

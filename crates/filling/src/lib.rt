@@ -2,22 +2,22 @@
 // node table are written.
 ghost use mathlib.Core.Path.{_≡_};
 ghost use mathlib.Core.Bool.{true};
-ghost use Prim.Native.Nat.{ℕ, _+_, _*_, _<_, _≤_};
-ghost use lib.ListN.{length, getD};
-ghost use Rattle.ground.specs.Laid.{zeroed};
+ghost use Prim.Native.Nat.{_+_, _*_};
+ghost use Rattle.ground.specs.Laid.{laid, zeroed};
 ghost use Rattle.ground.specs.Calls.{Promise};
-ghost use Rattle.register.specs.Register.{slotCount, registerLength, registerOf};
-ghost use Rattle.nodes.specs.Nodes.{size, nodesLength};
+ghost use Rattle.register.specs.Register.{slotBytes, slotCount, registerLength, registerOf};
+ghost use Rattle.nodes.specs.Nodes.{nodesLength};
 ghost use Rattle.growing.specs.Enter.{enterAll};
+ghost use Rattle.sheet.specs.Sheet.{numberItem};
 ghost use Rattle.sheet.specs.Reading.{decode};
-ghost use Rattle.judging.specs.Judged.{judgedOf, numbersAt, endAt};
+ghost use Rattle.judging.specs.Judged.{judgedOf, numberHere, nextPlace, numbersAt, endAt};
 ghost use Rattle.judging.specs.declared.Judged.the-variants.{Good};
-ghost use Rattle.filling.specs.Filling.{tables};
-ghost use Rattle.filling.specs.Read.{reading, kitsRead, readReply, NumbersStand, KitsStand};
+ghost use Rattle.lent.specs.Lent.{tables};
+ghost use Rattle.filling.specs.Read.{reading, kitsRead, readReply, NumberStands, NumbersStand, KitsStand};
 use ground::clear;
 use ground::copy_in;
-use ground::wide16;
 use ground::wide8;
+use ground::wide16;
 use index::insert;
 use judging::Judged;
 use judging::judge;
@@ -38,6 +38,16 @@ pub enum ReadSheet {
     NoNodes(usize),
 }
 
+// Sets the number that stands at a place of the sheet, with its length, into slot k: where it ends.
+fn enter_number(reg: &mut [u8], s: &[u8], at: usize, k: usize) -> usize
+    requires { ⌜ NumberStands (now s) at k (now reg) ⌝ }
+    ensures { λ r. ⌜ r ≡ nextPlace (now (s .entry)) at ⌝ ∗ ⌜ now (reg .exit) ≡ laid (now (reg .entry)) (k * slotBytes) (numberItem (numberHere (now (s .entry)) at)) ⌝ }
+{
+    let end = at + 1 + wide8(s[at]);
+    copy_in(reg, k * SLOT_BYTES, &s[at..end]);
+    end
+}
+
 // Empties the register and fills it with the n numbers of the sheet: where they end.
 fn fill_register(reg: &mut [u8], s: &[u8], n: usize) -> usize
     requires { ⌜ NumbersStand (now s) n (now reg) ⌝ }
@@ -47,9 +57,7 @@ fn fill_register(reg: &mut [u8], s: &[u8], n: usize) -> usize
     let mut at = Sheet::HEAD;
     let mut k = 0;
     while k < n {
-        let end = at + 1 + wide8(s[at]);
-        copy_in(reg, k * SLOT_BYTES, &s[at..end]);
-        at = end;
+        at = enter_number(reg, s, at, k);
         k += 1;
     }
     at

@@ -1,0 +1,103 @@
+-- Kits that the format has room for: its tests, and the words in which the node table's laws speak of kits, say the same.
+use mathlib.Core.Path.{_≡_, refl, sym, ap, _∙_}
+use mathlib.Core.Bool.{true, false, not}
+use mathlib.Core.List.{List, [], _∷_, List·Memᴰ·not-nil, Memᴰ·cast}
+use Prim.Native.Nat.{ℕ, _+_, _≤_, _<_}
+use native.Mathlib.Omega.{arith}
+use lib.ListN.{length, length-replicate}
+use lib.Dec.{eqb}
+use borrow.Author.Tests.{leb-true, le-leb, lt-ltb, ne-eqb, not-true}
+use Rattle.ground.specs.Lists.{allb, anyb, every, distinct}
+use Rattle.ground.specs.Laid.{zeroed}
+use Rattle.ground.proofs.Laws.{and-left, and-right, and-both, every-at}
+use Rattle.kits.specs.Kits.{mostUnits, listOf, before, goodList, GoodRow}
+use Rattle.kits.proofs.Order.{before-transitive}
+use Rattle.kits.proofs.Units.{good-row, units-back, row-list-good}
+use Rattle.nodes.specs.Nodes.{size, nodesLength}
+use Rattle.nodes.specs.Held.{Kit, tagsOf, held, allBeginnings}
+use Rattle.nodes.proofs.Lists.{never}
+use Rattle.nodes.proofs.Fields.{length-sized}
+use Rattle.nodes.proofs.Sorted.{Every, Rising, none, also, ahead, every-mem, mem-every, every-map, every-map2, allb-mem, eqb-anyb}
+use Rattle.nodes.proofs.Listing.{Earlier, OtherTag, earlier-other, tags-mem, mem-tags}
+use Rattle.nodes.proofs.Empty.{zeros-sound, zeros-hold-nothing}
+use Rattle.beginnings.proofs.Filled.{Fit, Apart, Fillable}
+use Rattle.sheet.specs.Bytes.{twoLimit}
+use Rattle.sheet.specs.Sheet.{goodKit, rising}
+use Rattle.sheet.proofs.Fresh.{any-none}
+
+-- each kit before the next, and each before all that follow
+first-of : {R : Kit → Kit → Type 0} {k : Kit} {ks : List Kit} → Rising R (k ∷ ks) → Every (R k) ks
+first-of (ahead e s) = e
+
+pub rising-earlier : (ks : List Kit) → rising ks ≡ true → Rising Earlier ks
+unfolding rising
+rising-earlier [] h = none
+rising-earlier (k ∷ []) h = ahead none none
+rising-earlier (k ∷ (l ∷ ks)) h =
+    let b : before (k .row) (l .row) ≡ true = and-left (before (k .row) (l .row)) (rising (l ∷ ks)) h in
+    let s : Rising Earlier (l ∷ ks) = rising-earlier (l ∷ ks) (and-right (before (k .row) (l .row)) (rising (l ∷ ks)) h) in
+    ahead (also b (every-map (λ x e. before-transitive (k .row) (l .row) (x .row) b e) (first-of s))) s
+
+pub earlier-rising : {ks : List Kit} → Rising Earlier ks → rising ks ≡ true
+unfolding rising
+earlier-rising none = refl
+earlier-rising (ahead none s) = refl
+earlier-rising (ahead {x = k} (also {x = l} {xs = ks} b e) s) = and-both (before (k .row) (l .row)) (rising (l ∷ ks)) b (earlier-rising s)
+
+-- no tag twice
+pub tags-apart : (ks : List Kit) → distinct eqb (tagsOf ks) ≡ true → Rising OtherTag ks
+unfolding distinct tagsOf
+tags-apart [] h = none
+tags-apart (k ∷ ks) h =
+    let a : anyb (eqb (k .tag)) (tagsOf ks) ≡ false = not-true _ (and-left (not (anyb (eqb (k .tag)) (tagsOf ks))) (distinct eqb (tagsOf ks)) h) in
+    ahead (mem-every ks (λ y m q. never (sym (eqb-anyb (k .tag) (tagsOf ks) (Memᴰ·cast q (mem-tags y ks m))) ∙ a)))
+    (tags-apart ks (and-right (not (anyb (eqb (k .tag)) (tagsOf ks))) (distinct eqb (tagsOf ks)) h))
+
+pub apart-tags : {ks : List Kit} → Rising OtherTag ks → distinct eqb (tagsOf ks) ≡ true
+unfolding distinct tagsOf
+apart-tags none = refl
+apart-tags (ahead {x = k} {xs = ks} e s) =
+    and-both (not (anyb (eqb (k .tag)) (tagsOf ks))) (distinct eqb (tagsOf ks))
+    (ap not (any-none (eqb (k .tag)) (tagsOf ks) (λ t m. let o = tags-mem t ks m in ne-eqb (k .tag) t (λ q. every-mem e (o .1) (q ∙ sym (o .2))))))
+    (apart-tags s)
+
+-- a good kit may be entered
+pub kit-fits : (n p : ℕ) (k : Kit) → n ≤ p → goodKit n k ≡ true → Fit p k
+unfolding goodKit
+kit-fits n p k h g =
+    let u = units-back (k .row) in
+    let l : goodList n (listOf (k .row)) ≡ true = every-at _ 2 g in
+    let s : length (k .row) ≤ mostUnits = leb-true (length (k .row)) mostUnits (every-at _ 3 g) in
+    let r : GoodRow n (k .row) = rw u at (good-row n (listOf (k .row)) l (rw u s)) in
+    record {
+      row = record { short = r .short; rises = r .rises; some-place = r .some-place; a-place = λ i v. omega (arith, r .a-place i v); few = r .few };
+      some-tag = leb-true 1 (k .tag) (every-at _ 0 g);
+    }
+
+pub fits-kit : (n : ℕ) (k : Kit) → Fit n k → k .tag < twoLimit → goodKit n k ≡ true
+unfolding goodKit every
+fits-kit n k f h =
+    let a = le-leb 1 (k .tag) (f .some-tag) in
+    let b = lt-ltb (k .tag) twoLimit h in
+    let c = row-list-good n (k .row) (f .row) in
+    let d = le-leb (length (k .row)) mostUnits (f .row .short) in
+    rw (a, b, c, d)
+
+-- two kits in listing order with different tags can be held together
+both-apart : {ks : List Kit} → Rising Earlier ks → Rising OtherTag ks → Rising Apart ks
+both-apart none none = none
+both-apart (ahead {x = k} d s) (ahead e t) = ahead (every-map2 (λ y a b. record { rows = earlier-other k y a; tags = b }) d e) (both-apart s t)
+
+-- Kits that the format has room for can be entered one after the other in an emptied table that has nodes for them
+pub kits-fillable : (n p : ℕ) (ks : List Kit) (N : List ℕ) → n ≤ p → allb (goodKit n) ks ≡ true → distinct eqb (tagsOf ks) ≡ true → rising ks ≡ true → nodesLength N ≡ true → 1 + length (allBeginnings ks) ≤ size N → Fillable p ks (zeroed N) ks
+kits-fillable n p ks N h g d r l room =
+    let e : held (zeroed N) ≡ [] = zeros-hold-nothing N l in
+    record {
+      sound = zeros-sound N p (length-sized N l);
+      fit = mem-every ks (λ k m. kit-fits n p k h (allb-mem (goodKit n) ks k g m));
+      differ = both-apart (rising-earlier ks r) (tags-apart ks d);
+      new = λ a b m. absurd (List·Memᴰ·not-nil (rw e at m));
+      held-in = λ k m. absurd (List·Memᴰ·not-nil (rw e at m));
+      all-in = λ k m. m;
+      room = omega (arith, length-replicate {A = ℕ} (length N) 0);
+    }
