@@ -7,7 +7,7 @@ use lib.ListN.{length, drop, getD}
 use lib.Dec.{eqb}
 use Rattle.ground.specs.Lists.{allb, distinct}
 use Rattle.ground.specs.Limits.{mostParts}
-use Rattle.ground.specs.Calls.{Plan, plan, Reply, done, refused}
+use Rattle.ground.specs.Calls.{Plan, plan, Reply, done, refused, Promise}
 use Rattle.register.specs.Number.{longestNumber}
 use Rattle.register.specs.Register.{slotCount, registerLength}
 use Rattle.nodes.specs.Nodes.{size, nodesLength}
@@ -16,10 +16,10 @@ use Rattle.sheet.specs.Sheet.{placeBytes, goodKit, rising}
 use Rattle.sheet.specs.Reading.{decode, said, recordSize, kitIn}
 use Rattle.sheet.specs.Calls.{sheetRefusals}
 use Rattle.judging.specs.Judged.{nextPlace, endAt, recordAt}
-use Rattle.lent.specs.Lent.{Tables}
 use Rattle.filling.specs.Filling.{filling}
 use Rattle.filling.specs.declared.ReadSheet.{ReadSheet}
-use Rattle.filling.specs.declared.ReadSheet.the-variants.{Kits, AtFault, NoSlots, NoNodes}
+use Rattle.filling.specs.declared.ReadSheet.the-variants.{Kits, AtFault, NoRoom}
+use Rattle.lent.specs.Lent.{Tables}
 
 -- 13, then 12; "kits read"
 unfoldable pub reading : List ℕ → Tables → Plan Tables
@@ -28,8 +28,11 @@ reading s T = plan (sheetRefusals s (slotCount (T .register)) (size (T .nodes)))
 abbrev pub readReply : ReadSheet → Reply
 readReply (Kits n) = done n
 readReply (AtFault o) = refused 13 o
-readReply (NoSlots n) = refused 12 n
-readReply (NoNodes n) = refused 12 n
+readReply (NoRoom n) = refused 12 n
+
+-- of a sheet and the tables before: the answer, and the tables after
+abbrev pub ReadPromise : List ℕ → Tables → ReadSheet → Tables → Type 0
+ReadPromise s T r M = Promise (reading s T) T (readReply r) M
 
 -- the m kits whose records stand from a place on, and where they end
 unfoldable pub kitsRead : List ℕ → ℕ → ℕ → List Kit

@@ -4,7 +4,6 @@ ghost use mathlib.Core.Path.{_≡_};
 ghost use mathlib.Core.Bool.{true};
 ghost use Prim.Native.Nat.{_+_, _*_};
 ghost use Rattle.ground.specs.Laid.{laid, zeroed};
-ghost use Rattle.ground.specs.Calls.{Promise};
 ghost use Rattle.register.specs.Register.{slotBytes, slotCount, registerLength, registerOf};
 ghost use Rattle.nodes.specs.Nodes.{nodesLength};
 ghost use Rattle.growing.specs.Enter.{enterAll};
@@ -13,7 +12,7 @@ ghost use Rattle.sheet.specs.Reading.{decode};
 ghost use Rattle.judging.specs.Judged.{judgedOf, numberHere, nextPlace, numbersAt, endAt};
 ghost use Rattle.judging.specs.declared.Judged.the-variants.{Good};
 ghost use Rattle.lent.specs.Lent.{tables};
-ghost use Rattle.filling.specs.Read.{reading, kitsRead, readReply, NumberStands, NumbersStand, KitsStand};
+ghost use Rattle.filling.specs.Read.{ReadPromise, kitsRead, NumberStands, NumbersStand, KitsStand};
 use ground::clear;
 use ground::copy_in;
 use ground::wide8;
@@ -33,9 +32,10 @@ use sheet::Sheet;
 // What reading a sheet answers.
 pub enum ReadSheet {
     Kits(usize),
+    // the offset where the first faulty item starts
     AtFault(usize),
-    NoSlots(usize),
-    NoNodes(usize),
+    // the slots needed in all, or else the nodes
+    NoRoom(usize),
 }
 
 // Sets the number that stands at a place of the sheet, with its length, into slot k: where it ends.
@@ -90,14 +90,14 @@ pub fn fill(reg: &mut [u8], nodes: &mut [u16], s: &[u8], n: usize, m: usize)
 // A faultless sheet: 12, or both tables filled.
 fn take_in(reg: &mut [u8], nodes: &mut [u16], s: &[u8], sheet: Sheet, need: usize) -> ReadSheet
     requires { ⌜ registerLength (now reg) ≡ true ⌝ ∗ ⌜ nodesLength (now nodes) ≡ true ⌝ ∗ ⌜ Good sheet need ≡ judgedOf (decode (now s)) ⌝ }
-    ensures { λ r. ⌜ Promise (reading (now (s .entry)) (tables (now (reg .entry)) (now (nodes .entry)))) (tables (now (reg .entry)) (now (nodes .entry))) (readReply r) (tables (now (reg .exit)) (now (nodes .exit))) ⌝ }
+    ensures { λ r. ⌜ ReadPromise (now (s .entry)) (tables (now (reg .entry)) (now (nodes .entry))) r (tables (now (reg .exit)) (now (nodes .exit))) ⌝ }
 {
     let parts = wide16(sheet.parts);
     if count_slots(reg) < parts {
-        return ReadSheet::NoSlots(parts);
+        return ReadSheet::NoRoom(parts);
     }
     if node_count(nodes) < need {
-        return ReadSheet::NoNodes(need);
+        return ReadSheet::NoRoom(need);
     }
     let kits = wide16(sheet.kits);
     fill(reg, nodes, s, parts, kits);
@@ -107,7 +107,7 @@ fn take_in(reg: &mut [u8], nodes: &mut [u16], s: &[u8], sheet: Sheet, need: usiz
 // Reads a sheet into tables that have right lengths: kits read.
 pub fn read_sheet(reg: &mut [u8], nodes: &mut [u16], s: &[u8]) -> ReadSheet
     requires { ⌜ registerLength (now reg) ≡ true ⌝ ∗ ⌜ nodesLength (now nodes) ≡ true ⌝ }
-    ensures { λ r. ⌜ Promise (reading (now (s .entry)) (tables (now (reg .entry)) (now (nodes .entry)))) (tables (now (reg .entry)) (now (nodes .entry))) (readReply r) (tables (now (reg .exit)) (now (nodes .exit))) ⌝ }
+    ensures { λ r. ⌜ ReadPromise (now (s .entry)) (tables (now (reg .entry)) (now (nodes .entry))) r (tables (now (reg .exit)) (now (nodes .exit))) ⌝ }
 {
     match judge(s) {
         Judged::Fault(o) => ReadSheet::AtFault(o),
