@@ -27,8 +27,9 @@ use Rattle.index.specs.Index.{entryRefusals, insertingRow, missingRefusals, fin
 use Rattle.questions.specs.Questions.{anyOf, allOf}
 use Rattle.sheet.specs.Sheet.{encode}
 use Rattle.sheet.specs.Calls as sheet
+use Rattle.filling.specs.Read as filling
 use Rattle.lent.specs.Lent.{Tables, tables, partCount, lengths, lentBoth, lentList}
-use Rattle.catalogue.specs.Calls.{contents, emptying, inserting, finding, deleting, anyKit, allKits, writing}
+use Rattle.catalogue.specs.Calls.{contents, emptying, inserting, finding, deleting, anyKit, allKits, writing, reading}
 
 -- the row of a list that has room, as it is lent on by value
 module _ (w : Row) (l : List ℕ) (is : w ≡ rowOf (units l)) where
@@ -60,6 +61,16 @@ module _ (R N : List ℕ) where
   pub empty-done : (r : Reply) (R′ N′ : List ℕ) → r ≡ decide (lengths (tables R N)) 0 → isRefused r ≡ false → R′ ≡ zeroed R → N′ ≡ zeroed N → Promise (emptying (tables R N)) (tables R N) (done 0) (tables R′ N′)
   unfolding emptying answer
   empty-done r R′ N′ is e f g = rw (f, g) (promise-done (emptying (tables R N)) (tables R N) 0 _ (whole-passes r (lengths (tables R N)) 0 0 is e) refl)
+
+  -- Reading a sheet
+  module _ (s : List ℕ) (r : Reply) (is : r ≡ decide (lengths (tables R N)) 0) where
+    pub read-refused : isRefused r ≡ true → Promise (reading s (tables R N)) (tables R N) r (tables R N)
+    unfolding reading
+    read-refused e = promise-front (lengths (tables R N)) _ _ _ (tables R N) r 0 is e
+
+    pub read-done : (q p : Reply) (T′ : Tables) → isRefused r ≡ false → q ≡ p → Promise (filling.reading s (tables R N)) (tables R N) p T′ → Promise (reading s (tables R N)) (tables R N) q T′
+    unfolding reading filling.reading
+    read-done q p T′ e same i = rw same (promise-behind (lengths (tables R N)) _ _ _ (tables R N) p T′ 0 (ap isRefused (sym is) ∙ e) i)
 
   -- Writing the sheet
   pub write-refused : (o : List ℕ) (r : Reply) → r ≡ decide (lentBoth (tables R N)) 0 → isRefused r ≡ true → Promise (writing (tables R N) o) o r o
