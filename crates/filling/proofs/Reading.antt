@@ -24,11 +24,11 @@ use Rattle.sheet.specs.Sheet.{Contents, contentsOf, encode, fitting, slotsNeede
 use Rattle.sheet.specs.Reading.{Item, item, fault, decode, isFault, offset, said}
 use Rattle.sheet.specs.Calls.{sheetRefusals, roomRefusals}
 use Rattle.sheet.proofs.Laws.{encode-decode}
+use Rattle.lent.specs.Lent.{Tables, tables}
 use Rattle.filling.specs.Filling.{filling}
 use Rattle.filling.specs.Read.{reading}
 use Rattle.filling.proofs.Registered.{register-parts, register-sound, register-long, registerAll, registered-in-order}
 use Rattle.filling.proofs.Listed.{Fits, fitting-fits, rising-earlier, kits-fillable, insertAll, inserted-in-order}
-use Rattle.lent.specs.Lent.{Tables, tables}
 
 -- tables that have room for some contents
 pub record Roomy (c : Contents) (T : Tables) : Type 0 where

@@ -28,10 +28,10 @@ use Rattle.sheet.proofs.Written.{kit-back, record-size}
 use Rattle.sheet.proofs.Laws.{encode-decode}
 use Rattle.judging.specs.Judged.{judgedOf, sheetOf, numbersAt, endAt, recordAt}
 use Rattle.judging.specs.declared.Judged.the-variants.{Fault, Good}
+use Rattle.lent.specs.Lent.{Tables, tables}
 use Rattle.filling.specs.Filling.{filling}
 use Rattle.filling.specs.Read.{reading, kitsRead, endRead, NumbersStand, KitsStand}
 use Rattle.filling.proofs.Listed.{Fits, fitting-fits}
-use Rattle.lent.specs.Lent.{Tables, tables}
 
 -- Numbers that stand from a place on
 number-on : (s : List ℕ) (at : ℕ) (p : List ℕ) (ps : List (List ℕ)) (rest : List ℕ) → drop at s ≡ numberItems (p ∷ ps) ++ rest → (getD s at 0 ≡ length p) × (take (length p) (drop (at + 1) s) ≡ p) × (drop (at + 1 + length p) s ≡ numberItems ps ++ rest)
