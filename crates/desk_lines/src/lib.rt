@@ -6,8 +6,6 @@ ghost use Prim.Native.Nat.{_+_, _*_, _≤_};
 ghost use lib.ListN.{length};
 ghost use Rattle.ground.specs.Calls.{numberOf, valueOf};
 ghost use Rattle.register.specs.Inner.{Ready};
-ghost use Rattle.register.specs.Calls.{registeredReply};
-ghost use Rattle.kits.specs.Kits.{lineValue};
 ghost use Rattle.lent.specs.Lent.{tables};
 ghost use Rattle.lent.specs.Answers.{reply};
 ghost use Rattle.desk_text.specs.Lines.{goodLine};
@@ -26,10 +24,11 @@ use desk_replies::put_sheet;
 use desk_text::end_of;
 use desk_text::good_line;
 use desk_text::read_amount;
-use ground::wide16;
+use ground::wide8;
 use lent::Answer;
-use register::Registered;
 use register::register_in;
+use replies::answer_reply;
+use replies::registered_reply;
 
 // A pair takes four bytes of a line at least, so a line's list is no longer than this.
 const LIST_WORDS: usize = 256;
@@ -37,88 +36,13 @@ const LIST_WORDS: usize = 256;
 // Where the field behind the letter starts.
 const BEHIND_LETTER: usize = 2;
 
-// The paper's number and value of a registration's answer.
-fn registered_number(r: Registered) -> usize
-    ensures { λ n. ⌜ n ≡ numberOf (registeredReply r) ⌝ }
-{
-    match r {
-        Registered::Place(_) => 0,
-        Registered::WrongLength => 1,
-        Registered::NotSound => 2,
-        Registered::BadNumber => 3,
-        Registered::Held(_) => 9,
-        Registered::NoRoom => 12,
-    }
-}
-
-fn registered_value(r: Registered) -> usize
-    ensures { λ n. ⌜ n ≡ valueOf (registeredReply r) ⌝ }
-{
-    match r {
-        Registered::Place(p) => wide16(p),
-        Registered::WrongLength => 0,
-        Registered::NotSound => 0,
-        Registered::BadNumber => 0,
-        Registered::Held(p) => wide16(p),
-        Registered::NoRoom => 1,
-    }
-}
-
-// The paper's number and value of a call's answer.
-fn answer_number(a: Answer) -> usize
-    ensures { λ n. ⌜ n ≡ numberOf (reply a) ⌝ }
-{
-    match a {
-        Answer::Done(_) => 0,
-        Answer::WrongLength => 1,
-        Answer::NotSound => 2,
-        Answer::Unordered(_) => 4,
-        Answer::Unregistered(_) => 5,
-        Answer::Amount(_) => 6,
-        Answer::TooMany => 7,
-        Answer::NoTag => 8,
-        Answer::Held(_) => 9,
-        Answer::TagBorne => 10,
-        Answer::NotHeld => 11,
-        Answer::NoRoom(_) => 12,
-        Answer::Fault(_) => 13,
-    }
-}
-
-// The value of a list's fault in a line.
-fn line_value(line: usize) -> usize
-    ensures { λ n. ⌜ n ≡ lineValue line ⌝ }
-{
-    0
-}
-
-fn answer_value(a: Answer) -> usize
-    ensures { λ n. ⌜ n ≡ valueOf (reply a) ⌝ }
-{
-    match a {
-        Answer::Done(v) => v,
-        Answer::WrongLength => 0,
-        Answer::NotSound => 0,
-        Answer::Unordered(k) => line_value(k),
-        Answer::Unregistered(k) => line_value(k),
-        Answer::Amount(k) => line_value(k),
-        Answer::TooMany => 0,
-        Answer::NoTag => 0,
-        Answer::Held(t) => wide16(t),
-        Answer::TagBorne => 0,
-        Answer::NotHeld => 0,
-        Answer::NoRoom(v) => v,
-        Answer::Fault(o) => o,
-    }
-}
-
 // The number of the lookup that was refused.
 fn stop_number(r: Read) -> usize
     ensures { λ n. ⌜ n ≡ stopNumber r ⌝ }
 {
     match r {
         Read::List(_) => 0,
-        Read::Refused(n) => n as usize,
+        Read::Refused(n) => wide8(n),
     }
 }
 
@@ -127,7 +51,9 @@ fn put_answer(out: &mut [u8], letter: u8, a: Answer) -> usize
     requires { ⌜ headRoom + 1 ≤ length (now out) ⌝ }
     ensures { λ r. ⌜ Put (now (out .entry)) 0 (replyLine letter (numberOf (reply a)) (valueOf (reply a)) []) r (now (out .exit)) ⌝ }
 {
-    put_reply(out, letter, answer_number(a), answer_value(a))
+    let r = answer_reply(a);
+    let number = r.number;
+    put_reply(out, letter, wide8(number), r.value)
 }
 
 // Replies with the tags that a listing has set down.
@@ -135,10 +61,11 @@ fn put_listed(out: &mut [u8], letter: u8, a: Answer, places: &[u16]) -> usize
     requires { ⌜ headRoom + tagRoom * length (now places) + 1 ≤ length (now out) ⌝ ∗ ⌜ setDownBy (reply a) ≤ length (now places) ⌝ }
     ensures { λ r. ⌜ Put (now (out .entry)) 0 (printed letter tagsOf (reply a) (now (places .entry))) r (now (out .exit)) ⌝ }
 {
-    if answer_number(a) != 0 {
+    let r = answer_reply(a);
+    let n = r.value;
+    if r.number != 0 {
         return put_answer(out, letter, a);
     }
-    let n = answer_value(a);
     put_listing(out, letter, &places[..n])
 }
 
@@ -147,10 +74,11 @@ fn put_written(out: &mut [u8], a: Answer, sheet: &[u8]) -> usize
     requires { ⌜ headRoom + 1 + 2 * length (now sheet) + 1 ≤ length (now out) ⌝ ∗ ⌜ setDownBy (reply a) ≤ length (now sheet) ⌝ }
     ensures { λ r. ⌜ Put (now (out .entry)) 0 (printed writesLetter sheetText (reply a) (now (sheet .entry))) r (now (out .exit)) ⌝ }
 {
-    if answer_number(a) != 0 {
+    let r = answer_reply(a);
+    let n = r.value;
+    if r.number != 0 {
         return put_answer(out, desk_text::WRITES, a);
     }
-    let n = answer_value(a);
     put_sheet(out, desk_text::WRITES, &sheet[..n])
 }
 
@@ -160,12 +88,9 @@ fn register_line(line: &[u8], reg: &mut [u8], nodes: &[u16], out: &mut [u8]) -> 
     ensures { λ r. ⌜ Answers (registerLine (now (line .entry)) (tables (now (reg .entry)) (now (nodes .entry)))) (now (out .entry)) r (now (out .exit)) (tables (now (reg .exit)) (now (nodes .entry))) ⌝ ∗ ⌜ Ready (now (reg .exit)) ⌝ }
 {
     let a = register_in(reg, &line[BEHIND_LETTER..]);
-    put_reply(
-        out,
-        desk_text::REGISTERS,
-        registered_number(a),
-        registered_value(a),
-    )
+    let r = registered_reply(a);
+    let number = r.number;
+    put_reply(out, desk_text::REGISTERS, wide8(number), r.value)
 }
 
 // "W writes".

@@ -4,33 +4,19 @@ ghost use mathlib.Core.List.{[], _∷_};
 ghost use Prim.Native.Nat.{_+_, _≤_};
 ghost use lib.ListN.{length};
 ghost use Rattle.ground.specs.Laid.{laid};
-ghost use Rattle.ground.specs.Calls.{numberOf};
 ghost use Rattle.register.specs.Inner.{Ready};
-ghost use Rattle.register.specs.Calls.{lookedReply};
 ghost use Rattle.desk_lists.specs.Typed.{Pairs, mostWords, ReadAs};
 use desk_text::SPACE;
 use desk_text::end_of;
 use desk_text::read_amount;
 use register::Looked;
 use register::look_up_in;
+use replies::looked_reply;
 
 // What reading a list answers: how many words it has, or the number of the lookup that was refused, whose value is 0.
 pub enum Read {
     List(usize),
-    Refused(u32),
-}
-
-// The paper's number of a lookup's answer.
-fn looked_number(l: Looked) -> u32
-    ensures { λ r. ⌜ r ≡ numberOf (lookedReply l) ⌝ }
-{
-    match l {
-        Looked::Place(_) => 0,
-        Looked::WrongLength => 1,
-        Looked::NotSound => 2,
-        Looked::BadNumber => 3,
-        Looked::NotHeld => 11,
-    }
+    Refused(u8),
 }
 
 // Sets a place and a quantity down.
@@ -53,7 +39,8 @@ pub fn read_list(line: &[u8], from: usize, reg: &[u8], list: &mut [u16]) -> Read
         let number_end = end_of(line, at, SPACE);
         let found = look_up_in(reg, &line[at..number_end]);
         let Looked::Place(place) = found else {
-            return Read::Refused(looked_number(found));
+            let refusal = looked_reply(found);
+            return Read::Refused(refusal.number);
         };
         let start = number_end + 1;
         let end = end_of(line, start, SPACE);

@@ -1,14 +1,20 @@
-use mathlib.Core.Path.{sym, subst}
-use mathlib.Core.List.{List}
-use Prim.Native.Nat.{ℕ}
-use Rattle.register.specs.Inner.{Ready}
-use Rattle.register.specs.Calls.{registeredReply}
-use Rattle.desk_replies.proofs.Replies.{put-same}
-use Rattle.desk_lines.proofs.Good.{number-there, number-typed}
 use Rattle.desk_lines.proofs.Answering.{ready-kept, register-put}
+use Rattle.desk_lines.proofs.Good.{number-there, number-typed}
+use Rattle.desk_replies.proofs.Replies.{put-same}
+use Rattle.register.specs.Calls.{registeredReply}
+use Rattle.register.specs.Inner.{Ready}
+use Prim.Native.Nat.{ℕ}
+use mathlib.Core.List.{List}
+use mathlib.Core.Path.{sym, subst}
 use borrow.Author.Needs.{needs}
 use Rattle.desk_lines.proofs.register_line.Statement.{statement}
 use Rattle.desk_lines.proofs.register_line.Tie as tie
+use Rattle.desk_lines.proofs.register_line.Reads as reads
+use Rattle.desk_lines.proofs.register_line.Lts as lts
+use Rattle.desk_replies.proofs.put_reply.Reads as put-reply-reads
+use Rattle.ground.proofs.wide8.Reads as wide8-reads
+use Rattle.register.proofs.register_in.Reads as register-in-reads
+use Rattle.replies.proofs.registered_reply.Reads as registered-reply-reads
 
 sub-register-in : tie.Need-sub-register-in
 sub-register-in c = number-there _ (c .before .before .before .before .before .pre .0 .good) (c .before .before .before .before .before .pre .0 .letter)
@@ -22,11 +28,11 @@ part-register-in-end c = search needs
 register-in-requires : tie.Need-register-in-requires
 register-in-requires c κs = search needs
 
-registered-number-requires : tie.Need-registered-number-requires
-registered-number-requires c κs = search needs
+registered-reply-requires : tie.Need-registered-reply-requires
+registered-reply-requires c κs = search needs
 
-registered-value-requires : tie.Need-registered-value-requires
-registered-value-requires c κs = search needs
+wide8-requires : tie.Need-wide8-requires
+wide8-requires c κs = search needs
 
 put-reply-requires : tie.Need-put-reply-requires
 put-reply-requires c κs = search needs
@@ -53,8 +59,8 @@ register-line-spec =
     part-register-in-start
     part-register-in-end
     register-in-requires
-    registered-number-requires
-    registered-value-requires
+    registered-reply-requires
+    wide8-requires
     put-reply-requires
     same-length
     same-length-2

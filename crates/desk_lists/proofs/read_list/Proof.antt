@@ -52,15 +52,15 @@ look-up-in-requires c κs = c .before .before .before .before .before .before .b
 enum-known-found : tie.Need-enum-known-found Inv-loop μ-loop
 enum-known-found c = search needs
 
-looked-number-requires : tie.Need-looked-number-requires Inv-loop μ-loop
-looked-number-requires c κs = search needs
+looked-reply-requires : tie.Need-looked-reply-requires Inv-loop μ-loop
+looked-reply-requires c κs = search needs
 
 same-length : tie.Need-same-length Inv-loop μ-loop
 same-length c = c .before .before .before .before .before .before .loop .inv .size
 
 returns : tie.Need-returns Inv-loop μ-loop
-returns c = let a = sym (c .before .before .look-up-in .ensures) ∙ looked-stops (c .before .before .look-up-in .result) (c .before .match .keys2) ∙ ap (λ n. refused n 0) (sym (c .looked-number .ensures)) in
-    record { says = reading-stopped (c .before .before .before .before .before .before .loop .inv) (c .before .before .before .before .end-of .result) (c .before .before .before .before .before .loop-test .taken) (c .before .before .before .before .end-of .ensures) (c .looked-number .result) 0 a; inside = omega arith }
+returns c = let a = sym (c .before .before .look-up-in .ensures) ∙ looked-stops (c .before .before .look-up-in .result) (c .before .match .keys2) ∙ ap (λ n. refused n 0) (sym (c .looked-reply .ensures .number)) in
+    record { says = reading-stopped (c .before .before .before .before .before .before .loop .inv) (c .before .before .before .before .end-of .result) (c .before .before .before .before .before .loop-test .taken) (c .before .before .before .before .end-of .ensures) (c .looked-reply .result .number) 0 a; inside = omega arith }
 
 add-start : tie.Need-add-start Inv-loop μ-loop
 add-start c = omega (arith, c .before .before .before .before .before .end-of .ensures .high)
@@ -116,7 +116,7 @@ read-list-spec =
     part-look-up-in-end
     look-up-in-requires
     enum-known-found
-    looked-number-requires
+    looked-reply-requires
     same-length
     returns
     add-start
