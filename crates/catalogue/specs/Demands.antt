@@ -1,5 +1,5 @@
--- The three demands of the person this is built for, as statements on the definitions of the calls. Each is proved; the name of its proof
--- stands in front of it. "The tables and output are byte for byte what they were", "exactly when", "each once": in those words.
+-- The three demands of the person this is built for, as statements on the definitions of the calls, in their words. Each is proved in
+-- crates/demands; the file and the law stand behind "Proof".
 use mathlib.Core.Path.{_≡_}
 use mathlib.Core.Logic.{_↔_}
 use mathlib.Core.Bool.{Bool, true}
@@ -7,48 +7,91 @@ use mathlib.Core.List.{List, [], _∷_, _++_, List·Memᴰ}
 use Prim.Native.Nat.{ℕ, _*_, _≤_, _<_}
 use lib.ListN.{length, take, replicate}
 use Rattle.ground.specs.Limits.{mostParts}
-use Rattle.ground.specs.Calls.{Case, Plan, Reply, done, refused, answer, memory, Given}
+use Rattle.ground.specs.Calls.{Case, Plan, Reply, done, refused, answer, memory, Promise, Given}
 use Rattle.register.specs.Register.{slotBytes}
 use Rattle.kits.specs.Kits.{Within, units, before}
 use Rattle.nodes.specs.Nodes.{wordsPerNode, mostNodes, nodesLength}
 use Rattle.nodes.specs.Sound.{nodesSound}
 use Rattle.nodes.specs.Held.{Kit, listed, tagIn, dropKit}
-use Rattle.questions.specs.Questions.{isWithin, isContaining, fitting}
-use Rattle.sheet.specs.Bytes.{Bytes}
+use Rattle.questions.specs.Questions.{isWithin, isContaining, fitting, anyOf}
+use Rattle.sheet.specs.Bytes.{Bytes, twoLimit}
 use Rattle.sheet.specs.Sheet.{Contents, encode}
 use Rattle.sheet.specs.Reading.{decode, said}
 use Rattle.lent.specs.Lent.{Tables, tables, partCount}
-use Rattle.catalogue.specs.Calls.{contents, Call, emptyBoth, registerPart, lookUp, showAt, insertKit, findKit, deleteKit, anyWithin, anyContaining, allWithin, allContaining, writeSheet, readSheet, planOf, writing, reading}
+use Rattle.catalogue.specs.Calls.{contents, Call, emptyBoth, registerPart, lookUp, showAt, insertKit, findKit, deleteKit, anyWithin, anyContaining, allWithin, allContaining, writeSheet, readSheet, planOf, allKits, writing, reading}
 
 -- DEMAND 1
+-- "Every call ends and stays inside its memory for all inputs", "No call relies on the caller having looked first": no public call has a
+-- `requires`, and the check of each function shows that it ends and stays inside its memory.
+
 -- "A call is refused in the cases laid down and in no others, with the number laid down": a call is refused with number n and value v exactly
--- when, of its refusals in the paper's order, the first that is given has them. Proof: proofs/Demands, `refused-exactly`
+-- when, of its refusals in the paper's order, the first that is given has them. Proof: Refusals, `refused-exactly`
 abbrev pub RefusedExactly : Type 0
 RefusedExactly = (c : Call) (T : Tables) (n v : ℕ) → (answer (planOf c T) ≡ refused n v) ↔ Given n v (planOf c T .cases)
 
--- "and then the tables .. are byte for byte what they were"; the same of an output. Proof: `refusal-keeps`, `refusal-keeps-output`
+-- "and then the tables .. are byte for byte what they were". Proof: Refusals, `refusal-keeps`
 abbrev pub RefusalKeeps : Type 0
 RefusalKeeps = (c : Call) (T : Tables) (n v : ℕ) → answer (planOf c T) ≡ refused n v → memory (planOf c T) T ≡ T
 
+-- the calls that set something down in an output: a listing, and the sheet
+pub data SetsDown : Type 0 where
+  listing : (List ℕ → Kit → Bool) → List ℕ → SetsDown
+  sheet : SetsDown
+
+unfoldable pub settingDown : SetsDown → Tables → List ℕ → Plan (List ℕ)
+settingDown (listing question l) T o = allKits question l T o
+settingDown sheet T o = writing T o
+
+-- "the tables and output are byte for byte what they were": the output. Proof: Refusals, `refusal-keeps-output`
+abbrev pub RefusalKeepsOutput : Type 0
+RefusalKeepsOutput = (x : SetsDown) (T : Tables) (o : List ℕ) (n v : ℕ) → answer (settingDown x T o) ≡ refused n v → memory (settingDown x T o) o ≡ o
+
+-- Document 01, "What the promises pin": "for every input, refused ones too, each public promise determines the answer and every lent word and
+-- byte afterwards". Proof: Refusals, `tables-pinned`, `output-pinned`
+abbrev pub TablesPinned : Type 0
+TablesPinned = (c : Call) (T U W : Tables) (r s : Reply) → Promise (planOf c T) T r U → Promise (planOf c T) T s W → (r ≡ s) × (U ≡ W)
+
+abbrev pub OutputPinned : Type 0
+OutputPinned = (x : SetsDown) (T : Tables) (o p q : List ℕ) (r s : Reply) → Promise (settingDown x T o) o r p → Promise (settingDown x T o) o s q → (r ≡ s) × (p ≡ q)
+
 -- DEMAND 2
 -- "A kit fits a bin exactly when, for each part, the kit's quantity is no more than the bin's": the kits listed within a bin are exactly the
--- held kits of which that is so. Proof: `fits-exactly`
+-- held kits of which that is so. Proof: Questions, `fits-exactly`
 abbrev pub FitsExactly : Type 0
 FitsExactly = (bin N : List ℕ) (k : Kit) → List·Memᴰ k (fitting isWithin bin N) ↔ (List·Memᴰ k (listed N) × Within (k .row) (units bin))
 
--- "The opposite question, which kits contain all these parts, answers by the same rule turned round". Proof: `contains-exactly`
+-- "The opposite question, which kits contain all these parts, answers by the same rule turned round". Proof: Questions, `contains-exactly`,
+-- `turned-round`
 abbrev pub ContainsExactly : Type 0
 ContainsExactly = (wanted N : List ℕ) (k : Kit) → List·Memᴰ k (fitting isContaining wanted N) ↔ (List·Memᴰ k (listed N) × Within (units wanted) (k .row))
 
--- each kit before all that follow it
+abbrev pub TurnedRound : Type 0
+TurnedRound = (k j : Kit) → isWithin (j .row) k ≡ isContaining (k .row) j
+
+-- tables that are lent to a question and not refused
+pub record SoundNodes (T : Tables) : Type 0 where
+  pub sized : nodesLength (T .nodes) ≡ true
+  pub sound : nodesSound (partCount T) (T .nodes) ≡ true
+
+-- each kit before all that follow it; so none stands twice
 pub data InOrder : List Kit → Type 0 where
   none : InOrder []
-  one : {k : Kit} → InOrder (k ∷ [])
-  more : {k j : Kit} {ks : List Kit} → before (k .row) (j .row) ≡ true → InOrder (j ∷ ks) → InOrder (k ∷ (j ∷ ks))
+  ahead : {k : Kit} {ks : List Kit} → ((j : Kit) → List·Memᴰ j ks → before (k .row) (j .row) ≡ true) → InOrder ks → InOrder (k ∷ ks)
 
--- "a listing shows each fitting kit once, in the fixed order". Proof: `listed-in-order`
+-- "a listing shows each fitting kit once, in the fixed order". Proof: Questions, `listed-in-order`
 abbrev pub ListedInOrder : Type 0
-ListedInOrder = (question : List ℕ → Kit → Bool) (l : List ℕ) (T : Tables) → nodesLength (T .nodes) ≡ true → nodesSound (partCount T) (T .nodes) ≡ true → InOrder (fitting question l (T .nodes))
+ListedInOrder = (question : List ℕ → Kit → Bool) (l : List ℕ) (T : Tables) → SoundNodes T → InOrder (fitting question l (T .nodes))
+
+-- ""No kit fits" is said exactly when none held fits". Proof: Questions, `none-fits`, `none-contains`
+abbrev pub NoneFits : Type 0
+NoneFits = (bin : List ℕ) (T : Tables) → SoundNodes T → (anyOf isWithin bin (T .nodes) ≡ 0) ↔ ((k : Kit) → List·Memᴰ k (listed (T .nodes)) → Within (k .row) (units bin) → ⊥)
+
+abbrev pub NoneContains : Type 0
+NoneContains = (wanted : List ℕ) (T : Tables) → SoundNodes T → (anyOf isContaining wanted (T .nodes) ≡ 0) ↔ ((k : Kit) → List·Memᴰ k (listed (T .nodes)) → Within (units wanted) (k .row) → ⊥)
+
+-- "Part numbers are one only if every character agrees". Proof: Questions, `one-only-if`
+abbrev pub OneOnlyIf : Type 0
+OneOnlyIf = (T : Tables) (n m : List ℕ) (p : ℕ) → answer (planOf (lookUp n) T) ≡ done p → answer (planOf (lookUp m) T) ≡ done p → n ≡ m
 
 -- DEMAND 3
 -- "what a catalogue has is what its accepted calls entered or read, less what later calls struck out, cleared or replaced by reading a sheet":
@@ -94,12 +137,14 @@ pub record Catalogue : Type 0 where
   pub room : ℕ
   pub calls : List Call
 
--- of an allowed size
+-- of an allowed size; and what the types of the calls say, that a tag is a 16-bit number and a sheet is bytes
 pub record Allowed (a : Catalogue) : Type 0 where
   pub some-slot : 1 ≤ a .slots
   pub few-slots : a .slots ≤ mostParts
   pub some-node : 1 ≤ a .room
   pub few-nodes : a .room ≤ mostNodes
+  pub tags : (l : List ℕ) (t : ℕ) → List·Memᴰ (insertKit l t) (a .calls) → t < twoLimit
+  pub sheets : (s : List ℕ) → List·Memᴰ (readSheet s) (a .calls) → Bytes s
 
 unfoldable pub begun : Catalogue → Tables
 begun a = tables (replicate (a .slots * slotBytes) 0) (replicate (a .room * wordsPerNode) 0)

@@ -1,2 +1,4 @@
 -- The proofs of the three demands.
 pub mod Model
+pub mod Refusals
+pub mod Questions
