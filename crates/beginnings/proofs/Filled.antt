@@ -67,7 +67,7 @@ module _ {parts : ℕ} {T : List Kit} {N : List ℕ} {k : Kit} {ks : List Kit} (
   k-fit : Fit parts k
   k-fit = every-mem (F .fit) first
 
-  acceptable : Accepted (k .row) (k .tag) N
+  pub acceptable : Accepted (k .row) (k .tag) N
   acceptable = record {
     fresh = fresh-tag (tagIn r (held N)) refl;
     unborne = unborne-tag (anyb (eqb t) (tagsOf (held N))) refl;

@@ -1,26 +1,26 @@
 -- Document 01, "Calls and what they answer": the calls that are lent both tables, each as the list of its refusals in the paper's order, its value,
 -- and what it leaves in the memory that it may write.
-use mathlib.Core.Bool.{Bool, not}
-use mathlib.Core.List.{List, [], _∷_, _++_}
+use mathlib.Core.Bool.{Bool}
+use mathlib.Core.List.{List, _∷_, _++_}
 use Prim.Native.Nat.{ℕ}
 use lib.ListN.{length}
 use lib.Dec.{ltb}
 use Rattle.ground.specs.Lists.{isZero}
 use Rattle.ground.specs.Laid.{zeroed}
-use Rattle.ground.specs.Calls.{Case, given, Plan, plan, setDown}
-use Rattle.register.specs.Register.{slotCount, partsOf, registerLength, registerSound, registerOf}
+use Rattle.ground.specs.Calls.{given, Plan, plan, setDown}
+use Rattle.register.specs.Register.{slotCount}
 use Rattle.register.specs.Calls.{registering, lookingUp, showing}
 use Rattle.kits.specs.Kits.{mostUnits, units, listFaults}
-use Rattle.nodes.specs.Nodes.{size, nodesLength}
-use Rattle.nodes.specs.Sound.{nodesSound}
+use Rattle.nodes.specs.Nodes.{size}
 use Rattle.nodes.specs.Held.{Kit, held, tagIn}
-use Rattle.growing.specs.Enter.{enter, lacks, enterAll}
+use Rattle.growing.specs.Enter.{enter, lacks}
 use Rattle.pruning.specs.Strike.{strike}
 use Rattle.index.specs.Index.{entryRefusals, missingRefusals}
 use Rattle.questions.specs.Questions.{isWithin, isContaining, anyOf, allOf}
 use Rattle.sheet.specs.Sheet.{Contents, contentsOf, encode}
 use Rattle.sheet.specs.Reading.{decode, said}
 use Rattle.sheet.specs.Calls.{sheetRefusals}
+use Rattle.filling.specs.Filling.{filling}
 use Rattle.lent.specs.Lent.{Tables, tables, partCount, lengths, lentBoth, lentList}
 
 -- what the catalogue has
@@ -65,16 +65,12 @@ allKits question l T o = setDown (lentList T l) (allOf question l (T .nodes)) o
 unfoldable pub writing : Tables → List ℕ → Plan (List ℕ)
 writing T o = setDown (lentBoth T) (encode (contents T)) o
 
--- "Reading leaves the tables as if emptied, then filled in sheet order"
-unfoldable pub filled : Tables → Contents → Tables
-filled T c = tables (registerOf (slotCount (T .register)) (c .parts)) (enterAll (zeroed (T .nodes)) (c .kits))
-
--- "Read a sheet: kits read": "1 for each table, then 13, then 12"
+-- "Read a sheet: kits read": "1 for each table, then 13, then 12"; "Reading leaves the tables as if emptied, then filled in sheet order"
 unfoldable pub reading : List ℕ → Tables → Plan Tables
 reading s T =
     plan (lengths T ++ sheetRefusals s (slotCount (T .register)) (size (T .nodes)))
     (length (said (decode s) .kits))
-    (filled T (said (decode s)))
+    (filling (said (decode s)) T)
 
 -- A call, with what is lent to it besides the tables
 pub data Call : Type 0 where

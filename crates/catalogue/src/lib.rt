@@ -5,9 +5,11 @@ ghost use Rattle.ground.specs.Calls.{Promise, answer};
 ghost use Rattle.questions.specs.Questions.{isWithin, isContaining, listedReply};
 ghost use Rattle.index.specs.Index.{foundReply, insertedReply, deletedReply};
 ghost use Rattle.writing.specs.Written.{writtenReply};
+ghost use Rattle.filling.specs.Read.{readReply};
 ghost use Rattle.lent.specs.Lent.{tables};
 ghost use Rattle.lent.specs.Answers.{reply};
-ghost use Rattle.catalogue.specs.Calls.{emptying, inserting, finding, deleting, anyKit, allKits, writing};
+ghost use Rattle.catalogue.specs.Calls.{emptying, inserting, finding, deleting, anyKit, allKits, writing, reading};
+use filling::ReadSheet;
 use ground::wide16;
 use index::Deleted;
 use index::Found;
@@ -183,4 +185,26 @@ pub fn write_sheet(reg: &[u8], nodes: &[u16], out: &mut [u8]) -> Answer
         return lent;
     }
     written_answer(writing::write_sheet(reg, nodes, out))
+}
+
+fn read_answer(r: ReadSheet) -> Answer
+    ensures { λ a. ⌜ reply a ≡ readReply r ⌝ }
+{
+    match r {
+        ReadSheet::Kits(n) => Answer::Done(n),
+        ReadSheet::AtFault(o) => Answer::Fault(o),
+        ReadSheet::NoSlots(n) => Answer::NoRoom(n),
+        ReadSheet::NoNodes(n) => Answer::NoRoom(n),
+    }
+}
+
+// Reads a sheet into both tables: the kits read.
+pub fn read_sheet(reg: &mut [u8], nodes: &mut [u16], s: &[u8]) -> Answer
+    ensures { λ r. ⌜ Promise (reading (now (s .entry)) (tables (now (reg .entry)) (now (nodes .entry)))) (tables (now (reg .entry)) (now (nodes .entry))) (reply r) (tables (now (reg .exit)) (now (nodes .exit))) ⌝ }
+{
+    let sized = check_lengths(reg, nodes);
+    if refused(sized) {
+        return sized;
+    }
+    read_answer(filling::read_sheet(reg, nodes, s))
 }

@@ -12,14 +12,8 @@ use Rattle.ground.specs.Lists.{anyb, every, eqList}
 use Rattle.ground.proofs.Laws.{anyb-append}
 use Rattle.register.specs.Number.{goodNumber}
 use Rattle.sheet.specs.Reading.{Item, item, fault, onward, one, numberSize, newNumber, numbers}
-use Rattle.judging.specs.Judged.{numbersAt, endAt, placeOf, Numbered}
+use Rattle.judging.specs.Judged.{numberHere, nextPlace, numbersAt, endAt, placeOf, Numbered}
 use Rattle.judging.proofs.Front.{one-short, one-bad, one-ok, place-fault, place-item, place-moved, place-stays, Moved}
-
-abbrev pub numberHere : List ℕ → ℕ → List ℕ
-numberHere s j = take (getD s j 0) (drop (j + 1) s)
-
-abbrev pub nextPlace : List ℕ → ℕ → ℕ
-nextPlace s j = j + 1 + getD s j 0
 
 module _ (s : List ℕ) where
   -- the first number, and those behind it

@@ -1,7 +1,7 @@
 -- What the judge of a sheet answers, and what each of its functions says of the sheet from a place on.
 use mathlib.Core.Path.{_≡_}
-use mathlib.Core.Bool.{Bool, true, false, _&&_, cond, not}
-use mathlib.Core.List.{List, [], _∷_, _++_}
+use mathlib.Core.Bool.{Bool, _&&_, cond, not}
+use mathlib.Core.List.{List, [], _∷_}
 use Prim.Native.Nat.{ℕ, zero, suc, _+_, _-_, _*_, _≤_, _<_}
 use lib.ListN.{length, take, drop, getD}
 use lib.Dec.{leb}
@@ -12,7 +12,7 @@ use Rattle.kits.specs.declared.Row.{Row}
 use Rattle.nodes.specs.Held.{Kit}
 use Rattle.sheet.specs.Bytes.{fromBytes, twoLimit}
 use Rattle.sheet.specs.Sheet.{Contents, placeBytes, nodesNeeded}
-use Rattle.sheet.specs.Reading.{Item, item, fault, Reading, onward, one, bytes, anyTwo, numbers, recordSize, hasTag, newKit, records, whole, decode}
+use Rattle.sheet.specs.Reading.{Item, item, fault, Reading, onward, one, bytes, anyTwo, numbers, recordSize, hasTag, records, whole, decode}
 use Rattle.sheet.specs.declared.Sheet.{Sheet}
 use Rattle.judging.specs.declared.Judged.{Judged}
 use Rattle.judging.specs.declared.Judged.the-variants.{Fault, Good}
@@ -53,14 +53,21 @@ abbrev pub numbersSay : List ℕ → ℕ → Read → Type 0
 numbersSay s n (read.Fault o) = numbers n [] (drop 7 s) 7 ≡ fault o
 numbersSay s n (read.Done at) = Numbered s n at
 
+-- the number that stands at a place, and where it ends
+abbrev pub numberHere : List ℕ → ℕ → List ℕ
+numberHere s j = take (getD s j 0) (drop (j + 1) s)
+
+abbrev pub nextPlace : List ℕ → ℕ → ℕ
+nextPlace s j = j + 1 + getD s j 0
+
 -- the first k numbers that stand from a place on, and where they end
 unfoldable pub numbersAt : List ℕ → ℕ → ℕ → List (List ℕ)
 numbersAt s j zero = []
-numbersAt s j (suc k) = take (getD s j 0) (drop (j + 1) s) ∷ numbersAt s (j + 1 + getD s j 0) k
+numbersAt s j (suc k) = numberHere s j ∷ numbersAt s (nextPlace s j) k
 
 unfoldable pub endAt : List ℕ → ℕ → ℕ → ℕ
 endAt s j zero = j
-endAt s j (suc k) = endAt s (j + 1 + getD s j 0) k
+endAt s j (suc k) = endAt s (nextPlace s j) k
 
 -- where an item ends; where it is at fault, where it starts
 unfoldable pub placeOf : Item (List ℕ) → ℕ

@@ -1,3 +1,8 @@
+use Rattle.lent.proofs.Lent.{lent-passed, lent-sound, lent-good}
+use Rattle.catalogue.proofs.Answers.{all-refused, all-done}
+use Rattle.questions.specs.Questions.{isWithin}
+use Rattle.ground.specs.Calls.{isRefused}
+use mathlib.Core.Path.{sym, ap, _∙_}
 use borrow.Author.Needs.{needs}
 use Rattle.catalogue.proofs.all_within.Statement.{statement}
 use Rattle.catalogue.proofs.all_within.Tie as tie
@@ -8,33 +13,26 @@ use Rattle.lent.proofs.check_lent.Reads as check-lent-reads
 use Rattle.lent.proofs.refused.Reads as refused-reads
 use Rattle.questions.proofs.all_within.Reads as all-within-reads
 
--- src/lib.rt:150:9
 check-lent-requires : tie.Need-check-lent-requires
 check-lent-requires c κs = search needs
 
--- src/lib.rt:151:8
 refused-requires : tie.Need-refused-requires
 refused-requires c κs = search needs
 
--- src/lib.rt:152:9
 returns : tie.Need-returns
-returns c = ?
+returns c = all-refused (c .before .before .before .before .before .before .before .args .reg .now) (c .before .before .before .before .before .before .before .args .nodes .now) (c .before .before .before .before .before .before .before .args .bin .now) _ (c .before .before .check-lent .ensures) isWithin (c .before .before .before .before .before .before .before .args .out .now) (sym (c .before .refused .ensures) ∙ c .if1 .taken)
 
--- src/lib.rt:154:19
 all-within-requires : tie.Need-all-within-requires
-all-within-requires c κs = ?
+all-within-requires c κs = let p = lent-passed (c .before .before .before .before .before .before .before .before .args .reg .now) (c .before .before .before .before .before .before .before .before .args .nodes .now) (c .before .before .before .before .before .before .before .before .args .bin .now) (ap isRefused (sym (c .before .before .before .check-lent .ensures)) ∙ sym (c .before .before .refused .ensures) ∙ c .before .if1 .left) in (lent-sound _ _ (p .both), lent-good _ _ _ p)
 
--- src/lib.rt:154:5
 listed-answer-requires : tie.Need-listed-answer-requires
 listed-answer-requires c κs = search needs
 
--- src/lib.rt:147:1
 same-length : tie.Need-same-length
 same-length c = search needs
 
--- src/lib.rt:147:1
 returns-2 : tie.Need-returns-2
-returns-2 c = ?
+returns-2 c = all-done (c .before .before .before .before .before .before .before .before .before .before .before .before .args .reg .now) (c .before .before .before .before .before .before .before .before .before .before .before .before .args .nodes .now) (c .before .before .before .before .before .before .before .before .before .before .before .before .args .bin .now) _ (c .before .before .before .before .before .before .before .check-lent .ensures) isWithin (c .before .before .before .before .before .before .before .before .before .before .before .before .args .out .now) _ _ _ (sym (c .before .before .before .before .before .before .refused .ensures) ∙ c .before .before .before .before .before .if1 .left) (c .listed-answer .ensures) (c .before .before .before .all-within .ensures)
 
 pub all-within-spec : {M : Type 1} → statement M
 all-within-spec =

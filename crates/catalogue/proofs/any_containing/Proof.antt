@@ -1,3 +1,8 @@
+use Rattle.lent.proofs.Lent.{lent-passed, lent-sound, lent-good}
+use Rattle.catalogue.proofs.Answers.{any-refused, any-done}
+use Rattle.questions.specs.Questions.{isContaining}
+use Rattle.ground.specs.Calls.{isRefused}
+use mathlib.Core.Path.{sym, ap, _∙_}
 use borrow.Author.Needs.{needs}
 use Rattle.catalogue.proofs.any_containing.Statement.{statement}
 use Rattle.catalogue.proofs.any_containing.Tie as tie
@@ -8,29 +13,23 @@ use Rattle.lent.proofs.check_lent.Reads as check-lent-reads
 use Rattle.lent.proofs.refused.Reads as refused-reads
 use Rattle.questions.proofs.any_containing.Reads as any-containing-reads
 
--- src/lib.rt:130:9
 check-lent-requires : tie.Need-check-lent-requires
 check-lent-requires c κs = search needs
 
--- src/lib.rt:131:8
 refused-requires : tie.Need-refused-requires
 refused-requires c κs = search needs
 
--- src/lib.rt:132:9
 returns : tie.Need-returns
-returns c = ?
+returns c = any-refused (c .before .before .before .before .before .before .args .reg .now) (c .before .before .before .before .before .before .args .nodes .now) (c .before .before .before .before .before .before .args .list .now) _ (c .before .before .check-lent .ensures) isContaining (sym (c .before .refused .ensures) ∙ c .if1 .taken)
 
--- src/lib.rt:134:25
 any-containing-requires : tie.Need-any-containing-requires
-any-containing-requires c κs = ?
+any-containing-requires c κs = let p = lent-passed (c .before .before .before .before .before .before .args .reg .now) (c .before .before .before .before .before .before .args .nodes .now) (c .before .before .before .before .before .before .args .list .now) (ap isRefused (sym (c .before .before .check-lent .ensures)) ∙ sym (c .before .refused .ensures) ∙ c .if1 .left) in (lent-sound _ _ (p .both), lent-good _ _ _ p)
 
--- src/lib.rt:134:18
 wide16-requires : tie.Need-wide16-requires
 wide16-requires c κs = search needs
 
--- src/lib.rt:127:1
 returns-2 : tie.Need-returns-2
-returns-2 c = ?
+returns-2 c = any-done (c .before .before .before .before .before .before .before .before .args .reg .now) (c .before .before .before .before .before .before .before .before .args .nodes .now) (c .before .before .before .before .before .before .before .before .args .list .now) _ (c .before .before .before .before .check-lent .ensures) isContaining _ (sym (c .before .before .before .refused .ensures) ∙ c .before .before .if1 .left) (c .wide16 .ensures .0 ∙ c .before .any-containing .ensures)
 
 pub any-containing-spec : {M : Type 1} → statement M
 any-containing-spec =

@@ -1,3 +1,8 @@
+use Rattle.lent.proofs.Lent.{lent-passed, lent-sound, lent-good}
+use Rattle.catalogue.proofs.Answers.{any-refused, any-done}
+use Rattle.questions.specs.Questions.{isWithin}
+use Rattle.ground.specs.Calls.{isRefused}
+use mathlib.Core.Path.{sym, ap, _∙_}
 use borrow.Author.Needs.{needs}
 use Rattle.catalogue.proofs.any_within.Statement.{statement}
 use Rattle.catalogue.proofs.any_within.Tie as tie
@@ -8,29 +13,23 @@ use Rattle.lent.proofs.check_lent.Reads as check-lent-reads
 use Rattle.lent.proofs.refused.Reads as refused-reads
 use Rattle.questions.proofs.any_within.Reads as any-within-reads
 
--- src/lib.rt:119:9
 check-lent-requires : tie.Need-check-lent-requires
 check-lent-requires c κs = search needs
 
--- src/lib.rt:120:8
 refused-requires : tie.Need-refused-requires
 refused-requires c κs = search needs
 
--- src/lib.rt:121:9
 returns : tie.Need-returns
-returns c = ?
+returns c = any-refused (c .before .before .before .before .before .before .args .reg .now) (c .before .before .before .before .before .before .args .nodes .now) (c .before .before .before .before .before .before .args .bin .now) _ (c .before .before .check-lent .ensures) isWithin (sym (c .before .refused .ensures) ∙ c .if1 .taken)
 
--- src/lib.rt:123:25
 any-within-requires : tie.Need-any-within-requires
-any-within-requires c κs = ?
+any-within-requires c κs = let p = lent-passed (c .before .before .before .before .before .before .args .reg .now) (c .before .before .before .before .before .before .args .nodes .now) (c .before .before .before .before .before .before .args .bin .now) (ap isRefused (sym (c .before .before .check-lent .ensures)) ∙ sym (c .before .refused .ensures) ∙ c .if1 .left) in (lent-sound _ _ (p .both), lent-good _ _ _ p)
 
--- src/lib.rt:123:18
 wide16-requires : tie.Need-wide16-requires
 wide16-requires c κs = search needs
 
--- src/lib.rt:116:1
 returns-2 : tie.Need-returns-2
-returns-2 c = ?
+returns-2 c = any-done (c .before .before .before .before .before .before .before .before .args .reg .now) (c .before .before .before .before .before .before .before .before .args .nodes .now) (c .before .before .before .before .before .before .before .before .args .bin .now) _ (c .before .before .before .before .check-lent .ensures) isWithin _ (sym (c .before .before .before .refused .ensures) ∙ c .before .before .if1 .left) (c .wide16 .ensures .0 ∙ c .before .any-within .ensures)
 
 pub any-within-spec : {M : Type 1} → statement M
 any-within-spec =

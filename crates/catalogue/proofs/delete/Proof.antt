@@ -1,3 +1,11 @@
+use Rattle.catalogue.proofs.Answers.{row-units, row-short, delete-refused, delete-long, delete-done}
+use Rattle.lent.proofs.Lent.{LentList, lent-passed, lent-sound}
+use Rattle.kits.specs.Kits.{mostUnits, units}
+use Rattle.ground.specs.Calls.{isRefused}
+use borrow.Author.Tests.{leb-true, not-true, not-false}
+use lib.ListN.{length}
+use Prim.Native.Nat.{_≤_}
+use mathlib.Core.Path.{sym, ap, _∙_}
 use borrow.Author.Needs.{needs}
 use Rattle.catalogue.proofs.delete.Statement.{statement}
 use Rattle.catalogue.proofs.delete.Tie as tie
@@ -10,53 +18,49 @@ use Rattle.kits.proofs.row_of.Reads as row-of-reads
 use Rattle.lent.proofs.check_lent.Reads as check-lent-reads
 use Rattle.lent.proofs.refused.Reads as refused-reads
 
--- src/lib.rt:105:9
 check-lent-requires : tie.Need-check-lent-requires
 check-lent-requires c κs = search needs
 
--- src/lib.rt:106:8
 refused-requires : tie.Need-refused-requires
 refused-requires c κs = search needs
 
--- src/lib.rt:107:9
 same-length : tie.Need-same-length
 same-length c = search needs
 
--- src/lib.rt:107:9
-returns : tie.Need-returns
-returns c = ?
+-- what was lent passed
+passed : (c : tie.Else1) → LentList (c .before .before .before .before .before .before .before .args .reg .now) (c .before .before .before .before .before .before .before .args .nodes .now) (c .before .before .before .before .before .before .before .args .list .now)
+passed c = lent-passed _ _ _ (ap isRefused (sym (c .before .before .check-lent .ensures)) ∙ sym (c .before .refused .ensures) ∙ c .if1 .left)
 
--- src/lib.rt:109:9
+-- it has room in a row
+few : (c : tie.Else2) → length (units (c .before .before .before .before .before .before .before .before .before .args .list .now)) ≤ mostUnits
+few c = leb-true (length (units (c .before .before .before .before .before .before .before .before .before .args .list .now))) mostUnits (sym (c .before .has-room .ensures) ∙ not-false _ (c .if2 .left))
+
+returns : tie.Need-returns
+returns c = delete-refused (c .before .before .before .before .before .before .before .args .reg .now) (c .before .before .before .before .before .before .before .args .nodes .now) (c .before .before .before .before .before .before .before .args .list .now) _ (c .before .before .check-lent .ensures) (sym (c .before .refused .ensures) ∙ c .if1 .taken)
+
 has-room-requires : tie.Need-has-room-requires
 has-room-requires c κs = search needs
 
--- src/lib.rt:110:9
 same-length-2 : tie.Need-same-length-2
 same-length-2 c = search needs
 
--- src/lib.rt:110:9
 returns-2 : tie.Need-returns-2
-returns-2 c = ?
+returns-2 c = delete-long (c .before .before .before .before .before .before .before .before .before .args .reg .now) (c .before .before .before .before .before .before .before .before .before .args .nodes .now) (c .before .before .before .before .before .before .before .before .before .args .list .now) _ (c .before .before .before .before .check-lent .ensures) (sym (c .before .before .before .refused .ensures) ∙ c .before .before .if1 .left) (lent-sound _ _ (passed (c .before .before) .both)) (sym (c .before .has-room .ensures) ∙ not-true _ (c .if2 .taken))
 
--- src/lib.rt:112:41
 row-of-requires : tie.Need-row-of-requires
-row-of-requires c κs = ?
+row-of-requires c κs = few (c .before)
 
--- src/lib.rt:112:20
 delete-requires : tie.Need-delete-requires
-delete-requires c κs = ?
+delete-requires c κs = (lent-sound _ _ (passed (c .before .before .before .before) .both), row-short _ (c .before .before .before .before .before .before .before .before .before .before .before .args .list .now) (c .row-of .ensures) (few (c .before .before)))
 
--- src/lib.rt:112:5
 deleted-answer-requires : tie.Need-deleted-answer-requires
 deleted-answer-requires c κs = search needs
 
--- src/lib.rt:102:1
 same-length-3 : tie.Need-same-length-3
 same-length-3 c = search needs
 
--- src/lib.rt:102:1
 returns-3 : tie.Need-returns-3
-returns-3 c = ?
+returns-3 c = delete-done (c .before .before .before .before .before .before .before .before .before .before .before .before .before .before .before .args .reg .now) (c .before .before .before .before .before .before .before .before .before .before .before .before .before .before .before .args .nodes .now) (c .before .before .before .before .before .before .before .before .before .before .before .before .before .before .before .args .list .now) _ (c .before .before .before .before .before .before .before .before .before .before .check-lent .ensures) _ _ _ _ (sym (c .before .before .before .before .before .before .before .before .before .refused .ensures) ∙ c .before .before .before .before .before .before .before .before .if1 .left) (row-units _ (c .before .before .before .before .before .before .before .before .before .before .before .before .before .before .before .args .list .now) (c .before .before .before .before .row-of .ensures)) (c .deleted-answer .ensures) (c .before .before .before .delete .ensures)
 
 pub delete-spec : {M : Type 1} → statement M
 delete-spec =

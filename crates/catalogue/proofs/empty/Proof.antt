@@ -1,3 +1,5 @@
+use Rattle.catalogue.proofs.Answers.{empty-refused, empty-done}
+use mathlib.Core.Path.{sym, _∙_}
 use borrow.Author.Needs.{needs}
 use Rattle.catalogue.proofs.empty.Statement.{statement}
 use Rattle.catalogue.proofs.empty.Tie as tie
@@ -8,45 +10,35 @@ use Rattle.lent.proofs.check_lengths.Reads as check-lengths-reads
 use Rattle.lent.proofs.refused.Reads as refused-reads
 use Rattle.nodes.proofs.clear_nodes.Reads as clear-nodes-reads
 
--- src/lib.rt:28:9
 check-lengths-requires : tie.Need-check-lengths-requires
 check-lengths-requires c κs = search needs
 
--- src/lib.rt:29:8
 refused-requires : tie.Need-refused-requires
 refused-requires c κs = search needs
 
--- src/lib.rt:30:9
 same-length : tie.Need-same-length
 same-length c = search needs
 
--- src/lib.rt:30:9
 same-length-2 : tie.Need-same-length-2
 same-length-2 c = search needs
 
--- src/lib.rt:30:9
 returns : tie.Need-returns
-returns c = ?
+returns c = empty-refused (c .before .before .before .before .before .before .before .args .reg .now) (c .before .before .before .before .before .before .before .args .nodes .now) _ (c .before .before .check-lengths .ensures) (sym (c .before .refused .ensures) ∙ c .if1 .taken)
 
--- src/lib.rt:32:5
 clear-requires : tie.Need-clear-requires
 clear-requires c κs = search needs
 
--- src/lib.rt:33:5
 clear-nodes-requires : tie.Need-clear-nodes-requires
 clear-nodes-requires c κs = search needs
 
--- src/lib.rt:25:1
 same-length-3 : tie.Need-same-length-3
 same-length-3 c = search needs
 
--- src/lib.rt:25:1
 same-length-4 : tie.Need-same-length-4
 same-length-4 c = search needs
 
--- src/lib.rt:25:1
 returns-2 : tie.Need-returns-2
-returns-2 c = ?
+returns-2 c = empty-done (c .before .before .before .before .before .before .before .before .before .before .before .before .before .before .before .args .reg .now) (c .before .before .before .before .before .before .before .before .before .before .before .before .before .before .before .args .nodes .now) _ _ _ (c .before .before .before .before .before .before .before .before .before .before .check-lengths .ensures) (sym (c .before .before .before .before .before .before .before .before .before .refused .ensures) ∙ c .before .before .before .before .before .before .before .before .if1 .left) (c .before .before .before .before .before .before .clear .ensures) (c .before .before .clear-nodes .ensures)
 
 pub empty-spec : {M : Type 1} → statement M
 empty-spec =

@@ -1,3 +1,11 @@
+use Prim.Native.Nat.{_≤_}
+use Rattle.catalogue.proofs.Answers.{row-units, row-short, find-refused, find-long, find-done}
+use Rattle.lent.proofs.Lent.{LentList, lent-passed, lent-sound}
+use lib.ListN.{length}
+use Rattle.kits.specs.Kits.{mostUnits, units}
+use Rattle.ground.specs.Calls.{isRefused}
+use borrow.Author.Tests.{leb-true, not-true, not-false}
+use mathlib.Core.Path.{sym, ap, _∙_}
 use borrow.Author.Needs.{needs}
 use Rattle.catalogue.proofs.find.Statement.{statement}
 use Rattle.catalogue.proofs.find.Tie as tie
@@ -10,41 +18,40 @@ use Rattle.kits.proofs.row_of.Reads as row-of-reads
 use Rattle.lent.proofs.check_lent.Reads as check-lent-reads
 use Rattle.lent.proofs.refused.Reads as refused-reads
 
--- src/lib.rt:82:9
 check-lent-requires : tie.Need-check-lent-requires
 check-lent-requires c κs = search needs
 
--- src/lib.rt:83:8
 refused-requires : tie.Need-refused-requires
 refused-requires c κs = search needs
 
--- src/lib.rt:84:9
-returns : tie.Need-returns
-returns c = ?
+-- what was lent passed
+passed : (c : tie.Else1) → LentList (c .before .before .before .before .before .before .args .reg .now) (c .before .before .before .before .before .before .args .nodes .now) (c .before .before .before .before .before .before .args .list .now)
+passed c = lent-passed _ _ _ (ap isRefused (sym (c .before .before .check-lent .ensures)) ∙ sym (c .before .refused .ensures) ∙ c .if1 .left)
 
--- src/lib.rt:86:9
+returns : tie.Need-returns
+returns c = find-refused (c .before .before .before .before .before .before .args .reg .now) (c .before .before .before .before .before .before .args .nodes .now) (c .before .before .before .before .before .before .args .list .now) _ (c .before .before .check-lent .ensures) (sym (c .before .refused .ensures) ∙ c .if1 .taken)
+
 has-room-requires : tie.Need-has-room-requires
 has-room-requires c κs = search needs
 
--- src/lib.rt:87:9
 returns-2 : tie.Need-returns-2
-returns-2 c = ?
+returns-2 c = find-long (c .before .before .before .before .before .before .before .before .args .reg .now) (c .before .before .before .before .before .before .before .before .args .nodes .now) (c .before .before .before .before .before .before .before .before .args .list .now) _ (c .before .before .before .before .check-lent .ensures) (sym (c .before .before .before .refused .ensures) ∙ c .before .before .if1 .left) (lent-sound _ _ (passed (c .before .before) .both)) (sym (c .before .has-room .ensures) ∙ not-true _ (c .if2 .taken))
 
--- src/lib.rt:89:37
+-- it has room in a row
+few : (c : tie.Else2) → length (units (c .before .before .before .before .before .before .before .before .args .list .now)) ≤ mostUnits
+few c = leb-true (length (units (c .before .before .before .before .before .before .before .before .args .list .now))) mostUnits (sym (c .before .has-room .ensures) ∙ not-false _ (c .if2 .left))
+
 row-of-requires : tie.Need-row-of-requires
-row-of-requires c κs = ?
+row-of-requires c κs = few c
 
--- src/lib.rt:89:18
 find-requires : tie.Need-find-requires
-find-requires c κs = ?
+find-requires c κs = (lent-sound _ _ (passed (c .before .before .before) .both), row-short _ (c .before .before .before .before .before .before .before .before .before .args .list .now) (c .row-of .ensures) (few (c .before)))
 
--- src/lib.rt:89:5
 found-answer-requires : tie.Need-found-answer-requires
 found-answer-requires c κs = search needs
 
--- src/lib.rt:79:1
 returns-3 : tie.Need-returns-3
-returns-3 c = ?
+returns-3 c = c .found-answer .ensures ∙ c .before .find .ensures ∙ find-done (c .before .before .before .before .before .before .before .before .before .before .before .args .reg .now) (c .before .before .before .before .before .before .before .before .before .before .before .args .nodes .now) (c .before .before .before .before .before .before .before .before .before .before .before .args .list .now) _ (c .before .before .before .before .before .before .before .check-lent .ensures) _ (sym (c .before .before .before .before .before .before .refused .ensures) ∙ c .before .before .before .before .before .if1 .left) (row-units _ (c .before .before .before .before .before .before .before .before .before .before .before .args .list .now) (c .before .before .row-of .ensures))
 
 pub find-spec : {M : Type 1} → statement M
 find-spec =

@@ -1,40 +1,34 @@
+use Rattle.index.specs.Index.{insertedReply}
+use mathlib.Core.Path.{sym, ap}
 use borrow.Author.Needs.{needs}
 use Rattle.catalogue.proofs.inserted_answer.Statement.{statement}
 use Rattle.catalogue.proofs.inserted_answer.Tie as tie
 use Rattle.catalogue.proofs.inserted_answer.Reads as reads
 use Rattle.catalogue.proofs.inserted_answer.Lts as lts
 
--- src/lib.rt:41:25
 enum-known-i : tie.Need-enum-known-i
 enum-known-i c = search needs
 
--- src/lib.rt:42:24
 enum-known-i-2 : tie.Need-enum-known-i-2
 enum-known-i-2 c = search needs
 
--- src/lib.rt:43:31
 enum-told : tie.Need-enum-told
 enum-told c = search needs
 
--- src/lib.rt:44:26
 enum-known-i-3 : tie.Need-enum-known-i-3
 enum-known-i-3 c = search needs
 
--- src/lib.rt:37:1
 returns : tie.Need-returns
-returns c = ?
+returns c = sym (ap insertedReply (c .before .i .given .1))
 
--- src/lib.rt:37:1
 returns-2 : tie.Need-returns-2
-returns-2 c = ?
+returns-2 c = sym (ap insertedReply (c .before .i2 .given .1))
 
--- src/lib.rt:37:1
 returns-3 : tie.Need-returns-3
 returns-3 c = search needs
 
--- src/lib.rt:37:1
 returns-4 : tie.Need-returns-4
-returns-4 c = ?
+returns-4 c = sym (ap insertedReply (c .before .i3 .given .1))
 
 pub inserted-answer-spec : {M : Type 1} → statement M
 inserted-answer-spec =

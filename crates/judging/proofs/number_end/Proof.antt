@@ -6,8 +6,8 @@ use lib.ListN.{getD, take, drop}
 use borrow.Author.Tests.{not-true, not-false}
 use Rattle.ground.specs.Lists.{anyb, eqList}
 use Rattle.register.specs.Number.{goodNumber}
-use Rattle.judging.specs.Judged.{numbersAt}
-use Rattle.judging.proofs.Numbers.{numberHere, number-none, number-cut, number-bad, number-twice, number-taken}
+use Rattle.judging.specs.Judged.{numberHere, numbersAt}
+use Rattle.judging.proofs.Numbers.{number-none, number-cut, number-bad, number-twice, number-taken}
 use borrow.Author.Needs.{needs}
 use Rattle.judging.proofs.number_end.Statement.{statement}
 use Rattle.judging.proofs.number_end.Tie as tie

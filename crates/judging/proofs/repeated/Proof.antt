@@ -4,8 +4,8 @@ use native.Mathlib.Nat.{sub-zero}
 use native.Mathlib.Omega.{arith}
 use lib.ListN.{length, getD}
 use Rattle.ground.specs.Lists.{anyb, eqList}
-use Rattle.judging.specs.Judged.{numbersAt, endAt}
-use Rattle.judging.proofs.Numbers.{numberHere, nextPlace, end-step, numbers-at-step, numbers-at-end, end-behind, any-yes, any-no, any-end}
+use Rattle.judging.specs.Judged.{numberHere, nextPlace, numbersAt, endAt}
+use Rattle.judging.proofs.Numbers.{end-step, numbers-at-step, numbers-at-end, end-behind, any-yes, any-no, any-end}
 use Rattle.judging.proofs.repeated.Statement.{statement}
 use Rattle.judging.proofs.repeated.Tie as tie
 

@@ -1,0 +1,172 @@
+-- What each call answers, refusal by refusal, once what it is lent was checked: the promise of the work behind the checks, put behind the refusals that passed.
+use mathlib.Core.Path.{_≡_, refl, sym, ap, _∙_}
+use mathlib.Core.Logic.{_≢_}
+use mathlib.Core.Bool.{Bool, true, false}
+use mathlib.Core.List.{List, [], _∷_, _++_}
+use Prim.Native.Nat.{ℕ, _≤_}
+use native.Mathlib.Omega.{arith}
+use lib.ListN.{length}
+use lib.Dec.{ltb, leb}
+use borrow.Author.Tests.{leb-true, leb-false, lt-ltb, le-ltb, eq-eqb, ne-eqb}
+use Rattle.ground.specs.Lists.{isZero}
+use Rattle.ground.specs.Laid.{zeroed}
+use Rattle.ground.specs.Calls.{Case, given, Plan, plan, Reply, done, refused, isRefused, decide, answer, memory, Promise, setDown}
+use Rattle.ground.proofs.Calls.{promise-first, promise-front, promise-behind, promise-part, promise-refused, promise-done, first-refuses, first-passes, whole-refuses, whole-passes, set-down-behind}
+use Rattle.kits.specs.Kits.{mostUnits, mostPlace, units, goodList, GoodRow, listFaults}
+use Rattle.kits.specs.Rows.{rowOf, unitsIn}
+use Rattle.kits.specs.declared.Row.{Row}
+use Rattle.kits.proofs.Rows.{row-back}
+use Rattle.kits.proofs.Units.{good-row}
+use Rattle.nodes.specs.Sound.{Sound}
+use Rattle.nodes.specs.Held.{Kit, held, tagIn}
+use Rattle.nodes.proofs.Held.{held-good}
+use Rattle.nodes.proofs.Listing.{tag-none}
+use Rattle.growing.specs.Enter.{enter, lacks}
+use Rattle.pruning.specs.Strike.{strike}
+use Rattle.index.specs.Index.{entryRefusals, insertingRow, missingRefusals, findingRow, deletingRow}
+use Rattle.questions.specs.Questions.{anyOf, allOf}
+use Rattle.sheet.specs.Sheet.{encode}
+use Rattle.sheet.specs.Calls as sheet
+use Rattle.filling.specs.Read as filling
+use Rattle.lent.specs.Lent.{Tables, tables, partCount, lengths, lentBoth, lentList}
+use Rattle.catalogue.specs.Calls.{contents, emptying, inserting, finding, deleting, anyKit, allKits, writing, reading}
+
+-- the row of a list that has room, as it is lent on by value
+module _ (w : Row) (l : List ℕ) (is : w ≡ rowOf (units l)) where
+  pub row-units : unitsIn w ≡ units l
+  row-units = ap unitsIn is ∙ row-back (units l)
+
+  pub row-short : length (units l) ≤ mostUnits → w .len ≤ mostUnits
+  row-short h = rw is h
+
+  pub row-good : goodList mostPlace l ≡ true → length (units l) ≤ mostUnits → GoodRow mostPlace (unitsIn w)
+  row-good g h = rw row-units (good-row mostPlace l g h)
+
+-- one refusal that is not given
+alone : (b : Bool) (n v : ℕ) → b ≡ false → isRefused (decide (given b n v ∷ []) 0) ≡ false
+unfolding decide
+alone b n v e = rw e
+
+-- one refusal that is given
+at-once : (b : Bool) (n v : ℕ) (ds : List Case) (w : ℕ) → b ≡ true → decide (given b n v ∷ ds) w ≡ refused n v
+unfolding decide
+at-once b n v ds w e = rw e
+
+module _ (R N : List ℕ) where
+  -- Emptying
+  pub empty-refused : (r : Reply) → r ≡ decide (lengths (tables R N)) 0 → isRefused r ≡ true → Promise (emptying (tables R N)) (tables R N) r (tables R N)
+  unfolding emptying answer
+  empty-refused r is e = promise-first (emptying (tables R N)) (tables R N) r e is
+
+  pub empty-done : (r : Reply) (R′ N′ : List ℕ) → r ≡ decide (lengths (tables R N)) 0 → isRefused r ≡ false → R′ ≡ zeroed R → N′ ≡ zeroed N → Promise (emptying (tables R N)) (tables R N) (done 0) (tables R′ N′)
+  unfolding emptying answer
+  empty-done r R′ N′ is e f g = rw (f, g) (promise-done (emptying (tables R N)) (tables R N) 0 _ (whole-passes r (lengths (tables R N)) 0 0 is e) refl)
+
+  -- Reading a sheet
+  module _ (s : List ℕ) (r : Reply) (is : r ≡ decide (lengths (tables R N)) 0) where
+    pub read-refused : isRefused r ≡ true → Promise (reading s (tables R N)) (tables R N) r (tables R N)
+    unfolding reading
+    read-refused e = promise-front (lengths (tables R N)) _ _ _ (tables R N) r 0 is e
+
+    pub read-done : (q p : Reply) (T′ : Tables) → isRefused r ≡ false → q ≡ p → Promise (filling.reading s (tables R N)) (tables R N) p T′ → Promise (reading s (tables R N)) (tables R N) q T′
+    unfolding reading filling.reading
+    read-done q p T′ e same i = rw same (promise-behind (lengths (tables R N)) _ _ _ (tables R N) p T′ 0 (ap isRefused (sym is) ∙ e) i)
+
+  -- Writing the sheet
+  pub write-refused : (o : List ℕ) (r : Reply) → r ≡ decide (lentBoth (tables R N)) 0 → isRefused r ≡ true → Promise (writing (tables R N) o) o r o
+  unfolding writing setDown
+  write-refused o r is e = promise-front (lentBoth (tables R N)) _ _ _ o r 0 is e
+
+  pub write-done : (o w : List ℕ) (r s q : Reply) → r ≡ decide (lentBoth (tables R N)) 0 → isRefused r ≡ false → s ≡ q → Promise (sheet.writing (contents (tables R N)) o) o q w → Promise (writing (tables R N) o) o s w
+  unfolding writing sheet.writing setDown
+  write-done o w r s q is e same p = rw same (set-down-behind (lentBoth (tables R N)) 0 (encode (contents (tables R N))) o (whole-passes r _ 0 0 is e) p)
+
+  module _ (l : List ℕ) where
+    -- "A list of more than 64 units is .. simply not held"
+    pub long-not-held : Sound mostPlace N → leb (length (units l)) mostUnits ≡ false → tagIn (units l) (held N) ≡ 0
+    long-not-held s h = tag-none (units l) (held N) (λ k m e. absurd (let g = held-good (s .shape) k m .short in let z = leb-false (length (units l)) mostUnits h in let y = ap length e in omega arith))
+
+    missing : (v : ℕ) → tagIn (units l) (held N) ≡ 0 → decide (missingRefusals (units l) N) v ≡ refused 11 0
+    unfolding missingRefusals
+    missing v z = at-once _ 11 0 [] v (ap isZero z)
+
+    -- Finding
+    module _ (r : Reply) (is : r ≡ decide (lentList (tables R N) l) 0) where
+      pub find-refused : isRefused r ≡ true → r ≡ answer (finding l (tables R N))
+      unfolding finding answer
+      find-refused e = first-refuses r _ _ 0 _ is e
+
+      pub find-long : isRefused r ≡ false → Sound mostPlace N → leb (length (units l)) mostUnits ≡ false → refused 11 0 ≡ answer (finding l (tables R N))
+      unfolding finding answer
+      find-long e s h = sym (first-passes r (lentList (tables R N) l) (missingRefusals (units l) N) 0 _ is e ∙ missing _ (long-not-held s h))
+
+      pub find-done : (us : List ℕ) → isRefused r ≡ false → us ≡ units l → answer (findingRow us N) ≡ answer (finding l (tables R N))
+      unfolding finding findingRow answer
+      find-done us e row = rw row (sym (first-passes r (lentList (tables R N) l) (missingRefusals (units l) N) 0 _ is e))
+
+      -- Deleting
+      pub delete-refused : isRefused r ≡ true → Promise (deleting l (tables R N)) (tables R N) r (tables R N)
+      unfolding deleting
+      delete-refused e = promise-front (lentList (tables R N) l) _ _ _ (tables R N) r 0 is e
+
+      pub delete-long : isRefused r ≡ false → Sound mostPlace N → leb (length (units l)) mostUnits ≡ false → Promise (deleting l (tables R N)) (tables R N) (refused 11 0) (tables R N)
+      unfolding deleting answer
+      delete-long e s h = promise-behind (lentList (tables R N) l) (missingRefusals (units l) N) _ _ (tables R N) _ _ 0 (ap isRefused (sym is) ∙ e) (promise-refused (plan (missingRefusals (units l) N) _ _) (tables R N) 11 0 (missing _ (long-not-held s h)))
+
+      pub delete-done : (us : List ℕ) (s q : Reply) (N′ : List ℕ) → isRefused r ≡ false → us ≡ units l → s ≡ q → Promise (deletingRow us N) N q N′ → Promise (deleting l (tables R N)) (tables R N) s (tables R N′)
+      unfolding deleting deletingRow
+      delete-done us s q N′ e row same p = rw same (promise-behind (lentList (tables R N) l) (missingRefusals (units l) N) _ _ (tables R N) _ _ 0 (ap isRefused (sym is) ∙ e) (promise-part (tables R) (deletingRow (units l) N) N q N′ (rw row at p)))
+
+      -- The questions
+      module _ (question : List ℕ → Kit → Bool) where
+        pub any-refused : isRefused r ≡ true → r ≡ answer (anyKit question l (tables R N))
+        unfolding anyKit answer
+        any-refused e = whole-refuses r _ 0 _ is e
+
+        pub any-done : (t : ℕ) → isRefused r ≡ false → t ≡ anyOf question l N → done t ≡ answer (anyKit question l (tables R N))
+        unfolding anyKit answer
+        any-done t e f = ap done f ∙ sym (whole-passes r (lentList (tables R N) l) 0 (anyOf question l N) is e)
+
+        pub all-refused : (o : List ℕ) → isRefused r ≡ true → Promise (allKits question l (tables R N) o) o r o
+        unfolding allKits setDown
+        all-refused o e = promise-front (lentList (tables R N) l) _ _ _ o r 0 is e
+
+        pub all-done : (o w : List ℕ) (s q : Reply) → isRefused r ≡ false → s ≡ q → Promise (setDown [] (allOf question l N) o) o q w → Promise (allKits question l (tables R N) o) o s w
+        unfolding allKits
+        all-done o w s q e same p = rw same (set-down-behind (lentList (tables R N) l) 0 (allOf question l N) o (whole-passes r _ 0 0 is e) p)
+
+    -- Inserting
+    module _ (t : ℕ) (r : Reply) (is : r ≡ decide (lentBoth (tables R N)) 0) where
+      pub insert-refused : isRefused r ≡ true → Promise (inserting l t (tables R N)) (tables R N) r (tables R N)
+      unfolding inserting
+      insert-refused e = promise-front (lentBoth (tables R N)) _ _ _ (tables R N) r 0 is e
+
+      module _ (e : isRefused r ≡ false) where
+        -- behind the checks of the tables
+        behind-both : (s : Reply) (T′ : Tables) → Promise (plan (given (isZero t) 8 0 ∷ (listFaults (partCount (tables R N)) l ++ (given (ltb mostUnits (length (units l))) 7 0 ∷ entryRefusals (units l) t N))) (lacks N 0 (units l)) (tables R (enter N 0 (units l) t))) (tables R N) s T′ → Promise (inserting l t (tables R N)) (tables R N) s T′
+        unfolding inserting
+        behind-both s T′ p = promise-behind (lentBoth (tables R N)) _ _ _ (tables R N) s T′ 0 (ap isRefused (sym is) ∙ e) p
+
+        pub insert-no-tag : t ≡ 0 → Promise (inserting l t (tables R N)) (tables R N) (refused 8 0) (tables R N)
+        unfolding answer
+        insert-no-tag z = behind-both _ _ (promise-refused (plan _ _ _) (tables R N) 8 0 (at-once (isZero t) 8 0 _ _ (eq-eqb t 0 z)))
+
+        module _ (some : t ≢ 0) where
+          behind-tag : (s : Reply) (T′ : Tables) → Promise (plan (listFaults (partCount (tables R N)) l ++ (given (ltb mostUnits (length (units l))) 7 0 ∷ entryRefusals (units l) t N)) (lacks N 0 (units l)) (tables R (enter N 0 (units l) t))) (tables R N) s T′ → Promise (inserting l t (tables R N)) (tables R N) s T′
+          behind-tag s T′ p = behind-both s T′ (promise-behind (given (isZero t) 8 0 ∷ []) _ _ _ (tables R N) s T′ 0 (alone (isZero t) 8 0 (ne-eqb t 0 some)) p)
+
+          module _ (q : Reply) (typed : q ≡ decide (listFaults (partCount (tables R N)) l) 0) where
+            pub insert-mistyped : isRefused q ≡ true → Promise (inserting l t (tables R N)) (tables R N) q (tables R N)
+            insert-mistyped f = behind-tag _ _ (promise-front (listFaults (partCount (tables R N)) l) _ _ _ (tables R N) q 0 typed f)
+
+            module _ (f : isRefused q ≡ false) where
+              behind-list : (s : Reply) (T′ : Tables) → Promise (plan (given (ltb mostUnits (length (units l))) 7 0 ∷ entryRefusals (units l) t N) (lacks N 0 (units l)) (tables R (enter N 0 (units l) t))) (tables R N) s T′ → Promise (inserting l t (tables R N)) (tables R N) s T′
+              behind-list s T′ p = behind-tag s T′ (promise-behind (listFaults (partCount (tables R N)) l) _ _ _ (tables R N) s T′ 0 (ap isRefused (sym typed) ∙ f) p)
+
+              pub insert-too-many : leb (length (units l)) mostUnits ≡ false → Promise (inserting l t (tables R N)) (tables R N) (refused 7 0) (tables R N)
+              unfolding answer
+              insert-too-many h = behind-list _ _ (promise-refused (plan _ _ _) (tables R N) 7 0 (at-once (ltb mostUnits (length (units l))) 7 0 _ _ (lt-ltb mostUnits (length (units l)) (leb-false (length (units l)) mostUnits h))))
+
+              pub insert-done : (us : List ℕ) (s p : Reply) (N′ : List ℕ) → leb (length (units l)) mostUnits ≡ true → us ≡ units l → s ≡ p → Promise (insertingRow us t N) N p N′ → Promise (inserting l t (tables R N)) (tables R N) s (tables R N′)
+              unfolding insertingRow
+              insert-done us s p N′ h row same i = rw same (behind-list _ _ (promise-behind (given (ltb mostUnits (length (units l))) 7 0 ∷ []) _ _ _ (tables R N) p (tables R N′) 0 (alone (ltb mostUnits (length (units l))) 7 0 (le-ltb mostUnits (length (units l)) (leb-true (length (units l)) mostUnits h))) (promise-part (tables R) (insertingRow (units l) t N) N p N′ (rw row at i))))

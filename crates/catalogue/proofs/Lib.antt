@@ -1,0 +1,2 @@
+-- The laws of the calls, for this crate and those above it.
+pub mod Answers

@@ -1,0 +1,68 @@
+use mathlib.Core.Path.{_≡_, refl, ap, _∙_}
+use mathlib.Core.List.{List}
+use Prim.Native.Nat.{ℕ, _-_, _≤_}
+use native.Mathlib.Omega.{arith}
+use lib.ListN.{length}
+use Rattle.growing.specs.Enter.{enterAll}
+use Rattle.index.specs.Index.{insertedReply}
+use Rattle.filling.specs.Read.{kitsRead}
+use Rattle.filling.proofs.Kits.{Filling, filling-start, filling-end, filling-on, record-whole, units-short, may-insert}
+use Rattle.filling.proofs.fill_nodes.Statement.{statement}
+use Rattle.filling.proofs.fill_nodes.Tie as tie
+
+abbrev Inv-loop : tie.InvT-loop
+Inv-loop nodes₀ s from m at₀ k₀ nodes at k = (k ≤ m) × Filling s from m nodes₀ nodes at k × (length nodes ≡ length nodes₀)
+
+abbrev μ-loop : tie.MeasureT-loop
+μ-loop nodes₀ s from m at₀ k₀ nodes at k = m - k
+
+clear-nodes-requires : tie.Need-clear-nodes-requires Inv-loop μ-loop
+clear-nodes-requires c κs = tt
+
+loop-holds : tie.Need-loop-holds Inv-loop μ-loop
+loop-holds c = (omega arith, filling-start (c .before .before .before .before .before .before .pre) (c .before .before .clear-nodes .ensures), refl)
+
+row-in-requires : tie.Need-row-in-requires Inv-loop μ-loop
+row-in-requires c κs = let F = c .before .before .loop .inv .1 in (record-whole F (omega arith), units-short F (omega arith))
+
+two-at-requires : tie.Need-two-at-requires Inv-loop μ-loop
+two-at-requires c κs = omega (arith, record-whole (c .before .before .before .loop .inv .1) (omega arith))
+
+insert-requires : tie.Need-insert-requires Inv-loop μ-loop
+insert-requires c κs = may-insert (c .before .before .before .before .loop .inv .1) (omega arith) (c .before .row-in .result) (c .before .row-in .ensures) (c .two-at .result) (c .two-at .ensures)
+
+record-end-requires : tie.Need-record-end-requires Inv-loop μ-loop
+record-end-requires c κs = omega (arith, record-whole (c .before .before .before .before .before .before .before .loop .inv .1) (omega arith))
+
+add-k : tie.Need-add-k Inv-loop μ-loop
+add-k c = omega arith
+
+loop-less : tie.Need-loop-less Inv-loop μ-loop
+loop-less c = omega arith
+
+loop-again : tie.Need-loop-again Inv-loop μ-loop
+loop-again c = (omega arith, filling-on (c .before .before .before .before .before .before .before .before .loop .inv .1) (omega arith) (c .before .before .before .before .before .row-in .result) (c .before .before .before .before .before .row-in .ensures) (c .before .before .before .before .two-at .result) (c .before .before .before .before .two-at .ensures) (insertedReply (c .before .before .before .insert .result)) (c .before .before .before .insert .last .0) (c .before .before .before .insert .ensures) (c .record-end .result) (c .record-end .ensures), c .before .before .before .insert .kept .0 ∙ c .before .before .before .before .before .before .before .before .loop .inv .2)
+
+same-length : tie.Need-same-length Inv-loop μ-loop
+same-length c = c .before .loop .inv .2 ∙ c .before .before .before .before .clear-nodes .kept .0
+
+returns : tie.Need-returns Inv-loop μ-loop
+returns c = filling-end (c .before .loop .inv .1) (omega arith) ∙ ap (λ (N : List ℕ). enterAll N (kitsRead (c .before .before .before .before .before .before .before .before .args .s .now) (c .before .before .before .before .before .before .before .before .args .from) (c .before .before .before .before .before .before .before .before .args .m))) (c .before .before .before .before .clear-nodes .ensures)
+
+pub fill-nodes-spec : {M : Type 1} → statement M
+fill-nodes-spec =
+    tie.close
+    (tie.spec
+    Inv-loop
+    μ-loop
+    clear-nodes-requires
+    loop-holds
+    row-in-requires
+    two-at-requires
+    insert-requires
+    record-end-requires
+    add-k
+    loop-less
+    loop-again
+    same-length
+    returns)

@@ -1,0 +1,116 @@
+// Document 01, "Read a sheet": a sheet that the judge finds faultless fills both tables, if they have room. The whole register and the whole
+// node table are written.
+ghost use mathlib.Core.Path.{_≡_};
+ghost use mathlib.Core.Bool.{true};
+ghost use Prim.Native.Nat.{_+_, _*_};
+ghost use Rattle.ground.specs.Laid.{laid, zeroed};
+ghost use Rattle.ground.specs.Calls.{Promise};
+ghost use Rattle.register.specs.Register.{slotBytes, slotCount, registerLength, registerOf};
+ghost use Rattle.nodes.specs.Nodes.{nodesLength};
+ghost use Rattle.growing.specs.Enter.{enterAll};
+ghost use Rattle.sheet.specs.Sheet.{numberItem};
+ghost use Rattle.sheet.specs.Reading.{decode};
+ghost use Rattle.judging.specs.Judged.{judgedOf, numberHere, nextPlace, numbersAt, endAt};
+ghost use Rattle.judging.specs.declared.Judged.the-variants.{Good};
+ghost use Rattle.lent.specs.Lent.{tables};
+ghost use Rattle.filling.specs.Read.{reading, kitsRead, readReply, NumberStands, NumbersStand, KitsStand};
+use ground::clear;
+use ground::copy_in;
+use ground::wide8;
+use ground::wide16;
+use index::insert;
+use judging::Judged;
+use judging::judge;
+use judging::record_end;
+use judging::row_in;
+use judging::two_at;
+use nodes::clear_nodes;
+use nodes::node_count;
+use register::SLOT_BYTES;
+use register::count_slots;
+use sheet::Sheet;
+
+// What reading a sheet answers.
+pub enum ReadSheet {
+    Kits(usize),
+    AtFault(usize),
+    NoSlots(usize),
+    NoNodes(usize),
+}
+
+// Sets the number that stands at a place of the sheet, with its length, into slot k: where it ends.
+fn enter_number(reg: &mut [u8], s: &[u8], at: usize, k: usize) -> usize
+    requires { ⌜ NumberStands (now s) at k (now reg) ⌝ }
+    ensures { λ r. ⌜ r ≡ nextPlace (now (s .entry)) at ⌝ ∗ ⌜ now (reg .exit) ≡ laid (now (reg .entry)) (k * slotBytes) (numberItem (numberHere (now (s .entry)) at)) ⌝ }
+{
+    let end = at + 1 + wide8(s[at]);
+    copy_in(reg, k * SLOT_BYTES, &s[at..end]);
+    end
+}
+
+// Empties the register and fills it with the n numbers of the sheet: where they end.
+fn fill_register(reg: &mut [u8], s: &[u8], n: usize) -> usize
+    requires { ⌜ NumbersStand (now s) n (now reg) ⌝ }
+    ensures { λ r. ⌜ r ≡ endAt (now (s .entry)) 7 n ⌝ ∗ ⌜ now (reg .exit) ≡ registerOf (slotCount (now (reg .entry))) (numbersAt (now (s .entry)) 7 n) ⌝ }
+{
+    clear(reg);
+    let mut at = Sheet::HEAD;
+    let mut k = 0;
+    while k < n {
+        at = enter_number(reg, s, at, k);
+        k += 1;
+    }
+    at
+}
+
+// Empties the node table and enters the m kits whose records stand from a place on, in sheet order.
+fn fill_nodes(nodes: &mut [u16], s: &[u8], from: usize, m: usize)
+    requires { ⌜ KitsStand (now s) from m (now nodes) ⌝ }
+    ensures { λ _. ⌜ now (nodes .exit) ≡ enterAll (zeroed (now (nodes .entry))) (kitsRead (now (s .entry)) from m) ⌝ }
+{
+    clear_nodes(nodes);
+    let mut at = from;
+    let mut k = 0;
+    while k < m {
+        insert(nodes, row_in(s, at), two_at(s, at));
+        at = record_end(s, at);
+        k += 1;
+    }
+}
+
+// Empties both tables and fills them with n parts and m kits of a sheet.
+pub fn fill(reg: &mut [u8], nodes: &mut [u16], s: &[u8], n: usize, m: usize)
+    requires { ⌜ NumbersStand (now s) n (now reg) ⌝ ∗ ⌜ KitsStand (now s) (endAt (now s) 7 n + 2) m (now nodes) ⌝ }
+    ensures { λ _. ⌜ (now (reg .exit) ≡ registerOf (slotCount (now (reg .entry))) (numbersAt (now (s .entry)) 7 n)) × (now (nodes .exit) ≡ enterAll (zeroed (now (nodes .entry))) (kitsRead (now (s .entry)) (endAt (now (s .entry)) 7 n + 2) m)) ⌝ }
+{
+    let at = fill_register(reg, s, n);
+    fill_nodes(nodes, s, at + 2, m);
+}
+
+// A faultless sheet: 12, or both tables filled.
+fn take_in(reg: &mut [u8], nodes: &mut [u16], s: &[u8], sheet: Sheet, need: usize) -> ReadSheet
+    requires { ⌜ registerLength (now reg) ≡ true ⌝ ∗ ⌜ nodesLength (now nodes) ≡ true ⌝ ∗ ⌜ Good sheet need ≡ judgedOf (decode (now s)) ⌝ }
+    ensures { λ r. ⌜ Promise (reading (now (s .entry)) (tables (now (reg .entry)) (now (nodes .entry)))) (tables (now (reg .entry)) (now (nodes .entry))) (readReply r) (tables (now (reg .exit)) (now (nodes .exit))) ⌝ }
+{
+    let parts = wide16(sheet.parts);
+    if count_slots(reg) < parts {
+        return ReadSheet::NoSlots(parts);
+    }
+    if node_count(nodes) < need {
+        return ReadSheet::NoNodes(need);
+    }
+    let kits = wide16(sheet.kits);
+    fill(reg, nodes, s, parts, kits);
+    ReadSheet::Kits(kits)
+}
+
+// Reads a sheet into tables that have right lengths: kits read.
+pub fn read_sheet(reg: &mut [u8], nodes: &mut [u16], s: &[u8]) -> ReadSheet
+    requires { ⌜ registerLength (now reg) ≡ true ⌝ ∗ ⌜ nodesLength (now nodes) ≡ true ⌝ }
+    ensures { λ r. ⌜ Promise (reading (now (s .entry)) (tables (now (reg .entry)) (now (nodes .entry)))) (tables (now (reg .entry)) (now (nodes .entry))) (readReply r) (tables (now (reg .exit)) (now (nodes .exit))) ⌝ }
+{
+    match judge(s) {
+        Judged::Fault(o) => ReadSheet::AtFault(o),
+        Judged::Good(sheet, need) => take_in(reg, nodes, s, sheet, need),
+    }
+}
