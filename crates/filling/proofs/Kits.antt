@@ -5,29 +5,25 @@ use Prim.Native.Nat.{ℕ, zero, suc, _+_, _-_, _≤_, _<_}
 use native.Mathlib.Nat.{sub-zero}
 use native.Mathlib.Omega.{arith}
 use lib.ListN.{length, take, drop}
-use borrow.Author.Tests.{le-ltb}
 use Rattle.ground.specs.Laid.{zeroed}
-use Rattle.ground.specs.Calls.{Reply, answer, decide, memory, Promise}
-use Rattle.ground.proofs.Calls.{leaves-done}
+use Rattle.ground.specs.Calls.{Reply, Promise}
 use Rattle.kits.specs.Kits.{mostUnits, mostPlace, units, GoodRow}
 use Rattle.kits.specs.Rows.{unitsIn, rowOf}
 use Rattle.kits.specs.declared.Row.{Row}
 use Rattle.kits.proofs.Rows.{row-back}
-use Rattle.nodes.specs.Nodes.{freeNodes}
 use Rattle.nodes.specs.Sound.{Sound}
 use Rattle.nodes.specs.Held.{Kit}
 use Rattle.nodes.proofs.Sorted.{every-mem}
-use Rattle.growing.specs.Enter.{enter, enterAll, lacks}
-use Rattle.index.specs.Index.{insertingRow, entryRefusals}
-use Rattle.index.proofs.Kept.{Accepted}
-use Rattle.beginnings.proofs.Filled.{Fit, Fillable, acceptable, fill-next}
+use Rattle.growing.specs.Enter.{enter, enterAll}
+use Rattle.index.specs.Index.{insertingRow}
+use Rattle.beginnings.proofs.Filled.{Fit, Fillable, fill-next}
 use Rattle.sheet.specs.Bytes.{fromBytes}
 use Rattle.sheet.specs.Sheet.{placeBytes}
 use Rattle.sheet.specs.Reading.{recordSize, kitIn}
 use Rattle.judging.specs.Judged.{recordAt, recordEnd, listAt, WholeAt}
 use Rattle.judging.proofs.Records.{size-at, end-whole, tag-is, row-is}
 use Rattle.filling.specs.Read.{kitsRead, endRead, KitsStand}
-use Rattle.filling.proofs.Listed.{kits-fillable}
+use Rattle.filling.proofs.Listed.{kits-fillable, inserting-enters}
 
 module _ (s : List ℕ) where
   kits-step : (at k m : ℕ) → k < m → kitsRead s at (m - k) ≡ kitIn placeBytes (recordAt s at) ∷ kitsRead s (at + recordSize placeBytes (drop at s)) (m - (k + 1))
@@ -101,16 +97,6 @@ module _ {s : List ℕ} {from m : ℕ} {Z nodes : List ℕ} {at k : ℕ} (F : Fi
       inside = omega (arith, F .inside, end-step s at k m h);
     }
 
-    -- the insertion is accepted, so the table is what it enters
-    entered : (a : Reply) (M : List ℕ) → Promise (insertingRow (kit .row) (kit .tag) nodes) nodes a M → M ≡ enter nodes 0 (kit .row) (kit .tag)
-    unfolding insertingRow entryRefusals answer decide memory
-    entered a M p =
-        let A : Accepted (kit .row) (kit .tag) nodes = acceptable next in
-        let f = A .fresh in
-        let b = A .unborne in
-        let r = le-ltb (length (freeNodes nodes)) (lacks nodes 0 (kit .row)) (A .room) in
-        p .lent ∙ leaves-done (answer (insertingRow (kit .row) (kit .tag) nodes)) (lacks nodes 0 (kit .row)) nodes (enter nodes 0 (kit .row) (kit .tag)) (rw (f, b, r))
-
     -- the record's row and tag, as they are read
     module _ (row : Row) (e : row ≡ rowOf (units (listAt s at))) (t : ℕ) (f : t ≡ fromBytes (take 2 (drop at s))) where
       is-row : unitsIn row ≡ kit .row
@@ -125,5 +111,5 @@ module _ {s : List ℕ} {from m : ℕ} {Z nodes : List ℕ} {at k : ℕ} (F : Fi
       pub filling-on : (a : Reply) (M : List ℕ) → Promise (insertingRow (unitsIn row) t nodes) nodes a M → (r : ℕ) → r ≡ recordEnd s at → Filling s from m Z M r (k + 1)
       filling-on a M p r q =
           let u : r ≡ place = q ∙ sym (end-whole s at record-whole) ∙ (omega (arith, size-at s at)) in
-          let v : M ≡ enter nodes 0 (kit .row) (kit .tag) = entered a M (rw (is-row, is-tag) at p) in
+          let v : M ≡ enter nodes 0 (kit .row) (kit .tag) = (rw (is-row, is-tag) at (p .lent)) ∙ inserting-enters next in
           rw (u, v) on

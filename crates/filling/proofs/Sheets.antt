@@ -6,22 +6,21 @@ use Prim.Native.Nat.{ℕ, zero, suc, _+_, _^_, _≤_, _<_}
 use native.Mathlib.Nat.{add-zero}
 use native.Mathlib.Omega.{arith}
 use lib.ListN.{length, take, drop, getD, length-append}
-use lib.Dec.{eqb}
 use lib.Seq.{drop-drop, getD-drop, take-append-seam, drop-append-seam}
-use borrow.Author.Tests.{lt-ltb, le-ltb, leb-true}
-use Rattle.ground.specs.Lists.{allb, concat, distinct}
+use borrow.Author.Tests.{lt-ltb, le-ltb}
+use Rattle.ground.specs.Lists.{allb, concat}
 use Rattle.ground.specs.Laid.{zeroed}
 use Rattle.ground.specs.Calls.{done, refused, decide, answer, Promise}
-use Rattle.ground.proofs.Laws.{every-at, and-left, and-right}
+use Rattle.ground.proofs.Laws.{and-left, and-right}
 use Rattle.ground.proofs.Calls.{promise-refused, promise-done}
 use Rattle.register.specs.Number.{goodNumber}
 use Rattle.register.specs.Register.{slotCount, registerLength, registerOf}
 use Rattle.register.proofs.Slots.{number-short}
 use Rattle.nodes.specs.Nodes.{size, nodesLength}
-use Rattle.nodes.specs.Held.{Kit, tagsOf}
+use Rattle.nodes.specs.Held.{Kit}
 use Rattle.growing.specs.Enter.{enterAll}
 use Rattle.sheet.specs.Bytes.{inBytes, two, Bytes}
-use Rattle.sheet.specs.Sheet.{Contents, placeBytes, numberItem, numberItems, recordItem, recordItems, encode, goodKit, rising, fitting, slotsNeeded, nodesNeeded}
+use Rattle.sheet.specs.Sheet.{Contents, placeBytes, numberItem, numberItems, recordItem, recordItems, encode, goodKit, fitting, slotsNeeded, nodesNeeded}
 use Rattle.sheet.specs.Reading.{Item, item, fault, recordSize, kitIn, decode, isFault, offset, said}
 use Rattle.sheet.specs.Calls.{sheetRefusals, roomRefusals}
 use Rattle.sheet.specs.declared.Sheet.{Sheet}
@@ -29,9 +28,10 @@ use Rattle.sheet.proofs.Written.{kit-back, record-size}
 use Rattle.sheet.proofs.Laws.{encode-decode}
 use Rattle.judging.specs.Judged.{judgedOf, sheetOf, numbersAt, endAt, recordAt}
 use Rattle.judging.specs.declared.Judged.the-variants.{Fault, Good}
-use Rattle.lent.specs.Lent.{Tables, tables}
 use Rattle.filling.specs.Filling.{filling}
 use Rattle.filling.specs.Read.{reading, kitsRead, endRead, NumbersStand, KitsStand}
+use Rattle.filling.proofs.Listed.{Fits, fitting-fits}
+use Rattle.lent.specs.Lent.{Tables, tables}
 
 -- Numbers that stand from a place on
 number-on : (s : List ℕ) (at : ℕ) (p : List ℕ) (ps : List (List ℕ)) (rest : List ℕ) → drop at s ≡ numberItems (p ∷ ps) ++ rest → (getD s at 0 ≡ length p) × (take (length p) (drop (at + 1) s) ≡ p) × (drop (at + 1 + length p) s ≡ numberItems ps ++ rest)
@@ -132,32 +132,15 @@ module _ (c : Contents) (fits : fitting c ≡ true) where
   abbrev tail : List ℕ
   tail = two (length (c .kits)) ++ recordItems placeBytes (c .kits)
 
-  few-parts : length (c .parts) ≤ 255
-  unfolding fitting
-  few-parts = leb-true (length (c .parts)) 255 (every-at _ 0 fits)
-
-  numbers-good : allb goodNumber (c .parts) ≡ true
-  unfolding fitting
-  numbers-good = every-at _ 1 fits
-
-  kits-good : allb (goodKit (length (c .parts))) (c .kits) ≡ true
-  unfolding fitting
-  kits-good = every-at _ 4 fits
-
-  kits-unlike : distinct eqb (tagsOf (c .kits)) ≡ true
-  unfolding fitting
-  kits-unlike = every-at _ 5 fits
-
-  kits-rise : rising (c .kits) ≡ true
-  unfolding fitting
-  kits-rise = every-at _ 6 fits
+  F : Fits c
+  F = fitting-fits c fits
 
   behind-head : drop 7 (encode c) ≡ numberItems (c .parts) ++ tail
   unfolding encode inBytes
   behind-head = refl
 
   parts-stand : Stand (encode c) 7 (c .parts)
-  parts-stand = stand (encode c) 7 (c .parts) tail numbers-good behind-head
+  parts-stand = stand (encode c) 7 (c .parts) tail (F .numbers-good) behind-head
 
   abbrev first : ℕ
   first = 7 + length (numberItems (c .parts)) + 2
@@ -170,7 +153,7 @@ module _ (c : Contents) (fits : fitting c ≡ true) where
       sym (drop-drop 2 (7 + length P) (encode c)) ∙ ap (drop 2) e ∙ sym (append-nil (recordItems placeBytes (c .kits)))
 
   records-stand : KitsAre (encode c) first (c .kits)
-  records-stand = kits-are (encode c) (length (c .parts)) first (c .kits) [] few-parts kits-good behind-count
+  records-stand = kits-are (encode c) (length (c .parts)) first (c .kits) [] (F .few-parts) (F .kits-good) behind-count
 
   sheet-long : length (encode c) ≡ first + length (recordItems placeBytes (c .kits))
   unfolding encode inBytes
@@ -193,11 +176,11 @@ module _ (c : Contents) (fits : fitting c ≡ true) where
       let e = kits-read in
       record {
         parts = length (c .parts);
-        few = few-parts;
+        few = F .few-parts;
         inside = rw first-record (omega (arith, records-stand .end, sheet-long));
-        good = rw e kits-good;
-        unlike = rw e kits-unlike;
-        rises = rw e kits-rise;
+        good = rw e (F .kits-good);
+        unlike = rw e (F .tags-once);
+        rises = rw e (F .kits-rise);
         fits = h;
         room = rw e r;
       }

@@ -58,14 +58,18 @@ module _ (m : ℕ) where
     unfolding registerOf
     register-size = length-laid (replicate (m * 32) 0) 0 X inside ∙ length-replicate (m * 32) 0
 
-    -- the next slot is free
-    pub slot-free : allb isZero (slotAt (registerOf m ps) (length ps)) ≡ true
-    unfolding registerOf slotAt
-    slot-free =
+    -- what lies behind the slots is free
+    pub rest-free : allb isZero (drop (length ps * 32) (registerOf m ps)) ≡ true
+    unfolding registerOf
+    rest-free =
         let e : 0 + length X ≡ length ps * 32 = omega (arith, slots-long ps f) in
         let d = drop-laid (replicate (m * 32) 0) 0 X inside in
         let g : drop (length ps * 32) (laid (replicate (m * 32) 0) 0 X) ≡ drop (length ps * 32) (replicate (m * 32) 0) = rw (← e) d in
-        rw g (allb-take isZero 32 (drop (length ps * 32) (replicate (m * 32) 0)) (allb-drop isZero (length ps * 32) (replicate (m * 32) 0) (zeros-all (m * 32))))
+        rw g (allb-drop isZero (length ps * 32) (replicate (m * 32) 0) (zeros-all (m * 32)))
+
+    pub slot-free : allb isZero (slotAt (registerOf m ps) (length ps)) ≡ true
+    unfolding slotAt
+    slot-free = allb-take isZero 32 (drop (length ps * 32) (registerOf m ps)) rest-free
 
     pub register-more : (p : List ℕ) → length p ≤ 24 → laid (registerOf m ps) (length ps * 32) (slotOf p) ≡ registerOf m (ps ++ (p ∷ []))
     unfolding registerOf

@@ -16,10 +16,10 @@ use Rattle.sheet.specs.Sheet.{placeBytes, goodKit, rising}
 use Rattle.sheet.specs.Reading.{decode, said, recordSize, kitIn}
 use Rattle.sheet.specs.Calls.{sheetRefusals}
 use Rattle.judging.specs.Judged.{nextPlace, endAt, recordAt}
-use Rattle.lent.specs.Lent.{Tables}
 use Rattle.filling.specs.Filling.{filling}
 use Rattle.filling.specs.declared.ReadSheet.{ReadSheet}
-use Rattle.filling.specs.declared.ReadSheet.the-variants.{Kits, AtFault, NoSlots, NoNodes}
+use Rattle.filling.specs.declared.ReadSheet.the-variants.{Kits, AtFault, NoRoom}
+use Rattle.lent.specs.Lent.{Tables}
 
 -- 13, then 12; "kits read"
 unfoldable pub reading : List ℕ → Tables → Plan Tables
@@ -28,8 +28,7 @@ reading s T = plan (sheetRefusals s (slotCount (T .register)) (size (T .nodes)))
 abbrev pub readReply : ReadSheet → Reply
 readReply (Kits n) = done n
 readReply (AtFault o) = refused 13 o
-readReply (NoSlots n) = refused 12 n
-readReply (NoNodes n) = refused 12 n
+readReply (NoRoom n) = refused 12 n
 
 -- the m kits whose records stand from a place on, and where they end
 unfoldable pub kitsRead : List ℕ → ℕ → ℕ → List Kit

@@ -33,9 +33,10 @@ use sheet::Sheet;
 // What reading a sheet answers.
 pub enum ReadSheet {
     Kits(usize),
+    // the offset where the first faulty item starts
     AtFault(usize),
-    NoSlots(usize),
-    NoNodes(usize),
+    // the slots needed in all, or else the nodes
+    NoRoom(usize),
 }
 
 // Sets the number that stands at a place of the sheet, with its length, into slot k: where it ends.
@@ -94,10 +95,10 @@ fn take_in(reg: &mut [u8], nodes: &mut [u16], s: &[u8], sheet: Sheet, need: usiz
 {
     let parts = wide16(sheet.parts);
     if count_slots(reg) < parts {
-        return ReadSheet::NoSlots(parts);
+        return ReadSheet::NoRoom(parts);
     }
     if node_count(nodes) < need {
-        return ReadSheet::NoNodes(need);
+        return ReadSheet::NoRoom(need);
     }
     let kits = wide16(sheet.kits);
     fill(reg, nodes, s, parts, kits);
