@@ -7,7 +7,7 @@ use lib.ListN.{length, drop, getD}
 use lib.Dec.{eqb}
 use Rattle.ground.specs.Lists.{allb, distinct}
 use Rattle.ground.specs.Limits.{mostParts}
-use Rattle.ground.specs.Calls.{Plan, plan, Reply, done, refused}
+use Rattle.ground.specs.Calls.{Plan, plan, Reply, done, refused, Promise}
 use Rattle.register.specs.Number.{longestNumber}
 use Rattle.register.specs.Register.{slotCount, registerLength}
 use Rattle.nodes.specs.Nodes.{size, nodesLength}
@@ -29,6 +29,10 @@ abbrev pub readReply : ReadSheet → Reply
 readReply (Kits n) = done n
 readReply (AtFault o) = refused 13 o
 readReply (NoRoom n) = refused 12 n
+
+-- of a sheet and the tables before: the answer, and the tables after
+abbrev pub ReadPromise : List ℕ → Tables → ReadSheet → Tables → Type 0
+ReadPromise s T r M = Promise (reading s T) T (readReply r) M
 
 -- the m kits whose records stand from a place on, and where they end
 unfoldable pub kitsRead : List ℕ → ℕ → ℕ → List Kit

@@ -4,7 +4,6 @@ ghost use mathlib.Core.Path.{_≡_};
 ghost use mathlib.Core.Bool.{true};
 ghost use Prim.Native.Nat.{_+_, _*_};
 ghost use Rattle.ground.specs.Laid.{laid, zeroed};
-ghost use Rattle.ground.specs.Calls.{Promise};
 ghost use Rattle.register.specs.Register.{slotBytes, slotCount, registerLength, registerOf};
 ghost use Rattle.nodes.specs.Nodes.{nodesLength};
 ghost use Rattle.growing.specs.Enter.{enterAll};
@@ -13,7 +12,7 @@ ghost use Rattle.sheet.specs.Reading.{decode};
 ghost use Rattle.judging.specs.Judged.{judgedOf, numberHere, nextPlace, numbersAt, endAt};
 ghost use Rattle.judging.specs.declared.Judged.the-variants.{Good};
 ghost use Rattle.lent.specs.Lent.{tables};
-ghost use Rattle.filling.specs.Read.{reading, kitsRead, readReply, NumberStands, NumbersStand, KitsStand};
+ghost use Rattle.filling.specs.Read.{ReadPromise, kitsRead, NumberStands, NumbersStand, KitsStand};
 use ground::clear;
 use ground::copy_in;
 use ground::wide8;
@@ -91,7 +90,7 @@ pub fn fill(reg: &mut [u8], nodes: &mut [u16], s: &[u8], n: usize, m: usize)
 // A faultless sheet: 12, or both tables filled.
 fn take_in(reg: &mut [u8], nodes: &mut [u16], s: &[u8], sheet: Sheet, need: usize) -> ReadSheet
     requires { ⌜ registerLength (now reg) ≡ true ⌝ ∗ ⌜ nodesLength (now nodes) ≡ true ⌝ ∗ ⌜ Good sheet need ≡ judgedOf (decode (now s)) ⌝ }
-    ensures { λ r. ⌜ Promise (reading (now (s .entry)) (tables (now (reg .entry)) (now (nodes .entry)))) (tables (now (reg .entry)) (now (nodes .entry))) (readReply r) (tables (now (reg .exit)) (now (nodes .exit))) ⌝ }
+    ensures { λ r. ⌜ ReadPromise (now (s .entry)) (tables (now (reg .entry)) (now (nodes .entry))) r (tables (now (reg .exit)) (now (nodes .exit))) ⌝ }
 {
     let parts = wide16(sheet.parts);
     if count_slots(reg) < parts {
@@ -108,7 +107,7 @@ fn take_in(reg: &mut [u8], nodes: &mut [u16], s: &[u8], sheet: Sheet, need: usiz
 // Reads a sheet into tables that have right lengths: kits read.
 pub fn read_sheet(reg: &mut [u8], nodes: &mut [u16], s: &[u8]) -> ReadSheet
     requires { ⌜ registerLength (now reg) ≡ true ⌝ ∗ ⌜ nodesLength (now nodes) ≡ true ⌝ }
-    ensures { λ r. ⌜ Promise (reading (now (s .entry)) (tables (now (reg .entry)) (now (nodes .entry)))) (tables (now (reg .entry)) (now (nodes .entry))) (readReply r) (tables (now (reg .exit)) (now (nodes .exit))) ⌝ }
+    ensures { λ r. ⌜ ReadPromise (now (s .entry)) (tables (now (reg .entry)) (now (nodes .entry))) r (tables (now (reg .exit)) (now (nodes .exit))) ⌝ }
 {
     match judge(s) {
         Judged::Fault(o) => ReadSheet::AtFault(o),
