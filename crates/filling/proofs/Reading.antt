@@ -102,7 +102,7 @@ accepted s T v e =
     record { faultless = a .0; slots = ltb-false _ _ (b .0); nodes = ltb-false _ _ (c .0); kits = no-refusal _ v (c .1) }
 
 -- a faultless sheet is the sheet of what it says, which fits the format
-said-again : (s : List ℕ) → Bytes s → isFault (decode s) ≡ false → (encode (said (decode s)) ≡ s) × (fitting (said (decode s)) ≡ true)
+pub said-again : (s : List ℕ) → Bytes s → isFault (decode s) ≡ false → (encode (said (decode s)) ≡ s) × (fitting (said (decode s)) ≡ true)
 unfolding said isFault
 said-again s b e = go (decode s) refl e
   where
