@@ -2,3 +2,6 @@
 pub mod Model
 pub mod Refusals
 pub mod Questions
+pub mod Brought
+pub mod Answers
+pub mod Sheets
