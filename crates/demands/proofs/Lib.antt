@@ -5,3 +5,4 @@ pub mod Questions
 pub mod Brought
 pub mod Answers
 pub mod Sheets
+pub mod ShortCases
