@@ -4,22 +4,22 @@ use mathlib.Core.Path.{_≡_}
 use mathlib.Core.Logic.{_↔_}
 use mathlib.Core.Bool.{Bool, true}
 use mathlib.Core.List.{List, [], _∷_, _++_, List·Memᴰ}
-use Prim.Native.Nat.{ℕ, _*_, _≤_, _<_}
+use Prim.Native.Nat.{ℕ, _+_, _*_, _≤_, _<_}
 use lib.ListN.{length, take, replicate}
 use Rattle.ground.specs.Limits.{mostParts}
 use Rattle.ground.specs.Lists.{keep}
 use Rattle.ground.specs.Calls.{Plan, Reply, done, refused, decide, answer, memory, Promise, Given, setDown}
 use Rattle.register.specs.Register.{slotBytes}
 use Rattle.kits.specs.Kits.{Within, units, before, listFaults}
-use Rattle.nodes.specs.Nodes.{wordsPerNode, mostNodes, nodesLength}
+use Rattle.nodes.specs.Nodes.{wordsPerNode, mostNodes, nodesLength, usedNodes}
 use Rattle.nodes.specs.Sound.{nodesSound}
-use Rattle.nodes.specs.Held.{Kit, inOrder, dropKit, tagIn, tagsOf, firstTag, listed}
+use Rattle.nodes.specs.Held.{Kit, inOrder, dropKit, tagIn, tagsOf, firstTag, listed, allBeginnings}
 use Rattle.questions.specs.Questions.{isWithin, isContaining, fitting, anyOf}
 use Rattle.sheet.specs.Bytes.{Bytes, twoLimit}
 use Rattle.sheet.specs.Sheet.{Contents, encode}
 use Rattle.sheet.specs.Reading.{decode, said}
 use Rattle.lent.specs.Lent.{Tables, tables, partCount}
-use Rattle.catalogue.specs.Calls.{contents, Call, emptyBoth, registerPart, lookUp, showAt, insertKit, findKit, deleteKit, anyWithin, anyContaining, allWithin, allContaining, writeSheet, readSheet, planOf, anyKit, allKits, writing, reading}
+use Rattle.catalogue.specs.Calls.{contents, Call, emptyBoth, registerPart, lookUp, showAt, insertKit, findKit, deleteKit, anyWithin, anyContaining, allWithin, allContaining, writeSheet, readSheet, planOf, inserting, anyKit, allKits, writing, reading}
 
 -- DEMAND 1
 -- "Every call ends and stays inside its memory for all inputs", "No call relies on the caller having looked first": no public call has a
@@ -50,14 +50,6 @@ settingDown sheet T o = writing T o
 -- "the tables and output are byte for byte what they were": the output. Proof: Refusals, `refusal-keeps-output`
 abbrev pub RefusalKeepsOutput : Type 0
 RefusalKeepsOutput = (x : SetsDown) (T : Tables) (o : List ℕ) (n v : ℕ) → answer (settingDown x T o) ≡ refused n v → memory (settingDown x T o) o ≡ o
-
--- Document 01, "What the promises pin": "for every input, refused ones too, each public promise determines the answer and every lent word and
--- byte afterwards". Proof: Refusals, `tables-pinned`, `output-pinned`
-abbrev pub TablesPinned : Type 0
-TablesPinned = (c : Call) (T U W : Tables) (r s : Reply) → Promise (planOf c T) T r U → Promise (planOf c T) T s W → (r ≡ s) × (U ≡ W)
-
-abbrev pub OutputPinned : Type 0
-OutputPinned = (x : SetsDown) (T : Tables) (o p q : List ℕ) (r s : Reply) → Promise (settingDown x T o) o r p → Promise (settingDown x T o) o s q → (r ≡ s) × (p ≡ q)
 
 -- WHAT A CATALOGUE HAS
 -- "what a catalogue has is what its accepted calls entered or read, less what later calls struck out, cleared or replaced by reading a sheet":
@@ -223,3 +215,21 @@ SameAgain = (T : Tables) (o s t : List ℕ) (k : ℕ) → Bytes s → answer (re
 -- "and no second accepted sheet means the same". Proof: Sheets, `no-second`
 abbrev pub NoSecond : Type 0
 NoSecond = (T U : Tables) (s t : List ℕ) (k n : ℕ) → Bytes s → Bytes t → answer (reading s T) ≡ done k → answer (reading t U) ≡ done n → Agree (said (decode s)) (said (decode t)) → s ≡ t
+
+-- WHAT THE PROMISES PIN
+-- Document 01, "What the promises pin": "for every input, refused ones too, each public promise determines the answer and every lent word and
+-- byte afterwards". Proof: Refusals, `tables-pinned`, `output-pinned`
+abbrev pub TablesPinned : Type 0
+TablesPinned = (c : Call) (T U W : Tables) (r s : Reply) → Promise (planOf c T) T r U → Promise (planOf c T) T s W → (r ≡ s) × (U ≡ W)
+
+abbrev pub OutputPinned : Type 0
+OutputPinned = (x : SetsDown) (T : Tables) (o p q : List ℕ) (r s : Reply) → Promise (settingDown x T o) o r p → Promise (settingDown x T o) o s q → (r ≡ s) × (p ≡ q)
+
+-- "Made-up counts fall with the table": "nodes used are always 1 plus the number of different nonempty beginnings of held kits", and "nodes taken
+-- are the growth of the beginnings", in terms of the kits entered. (A listing's value is in `AllAnswers`; "kits read are the sheet's records", in
+-- the plan of reading.) Proof: Counts, `nodes-counted`, `nodes-taken`
+abbrev pub NodesCounted : Type 0
+NodesCounted = (a : Catalogue) → Allowed a → length (usedNodes (tablesOf a .nodes)) ≡ 1 + length (allBeginnings (entered a .kits))
+
+abbrev pub NodesTaken : Type 0
+NodesTaken = (a : Catalogue) (l : List ℕ) (t v : ℕ) → Allowed a → answer (inserting l t (tablesOf a)) ≡ done v → length (allBeginnings (record { row = units l; tag = t } ∷ entered a .kits)) ≡ length (allBeginnings (entered a .kits)) + v

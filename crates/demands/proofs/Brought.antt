@@ -3,7 +3,7 @@ use mathlib.Core.Path.{_≡_, refl, sym, ap, subst, _∙_}
 use mathlib.Core.Logic.{_≢_}
 use mathlib.Core.Bool.{true}
 use mathlib.Core.List.{List, [], _∷_, _++_, List·Memᴰ, Memᴰ·cast}
-use Prim.Native.Nat.{ℕ, _*_, _%_, _≤_, _<_}
+use Prim.Native.Nat.{ℕ, _+_, _*_, _%_, _≤_, _<_}
 use native.Mathlib.Omega.{arith}
 use lib.ListN.{length, replicate, length-replicate, length-append}
 use lib.Dec.{leb, eqb}
@@ -23,7 +23,7 @@ use Rattle.kits.specs.Kits.{mostUnits, units, listFaults, goodList, GoodRow}
 use Rattle.kits.proofs.Units.{good-row}
 use Rattle.nodes.specs.Nodes.{wordsPerNode, mostNodes, nodesLength}
 use Rattle.nodes.specs.Sound.{Sound}
-use Rattle.nodes.specs.Held.{Kit, putKit, inOrder, dropKit, tagIn, held}
+use Rattle.nodes.specs.Held.{Kit, putKit, inOrder, dropKit, tagIn, held, allBeginnings}
 use Rattle.nodes.proofs.Sorted.{Every, Rising, none, also, ahead, mem-every, allb-mem}
 use Rattle.nodes.proofs.Listing.{Earlier, OtherRow, mem-order, tag-in}
 use Rattle.nodes.proofs.Decided.{sound-exactly}
@@ -31,10 +31,10 @@ use Rattle.nodes.proofs.Fields.{length-sized, sized-length}
 use Rattle.nodes.proofs.Held.{kit, held-rows-differ, held-tagged}
 use Rattle.nodes.proofs.Beginnings.{widen}
 use Rattle.nodes.proofs.Empty.{zeros-sound, zeros-hold-nothing}
-use Rattle.growing.specs.Enter.{enter}
+use Rattle.growing.specs.Enter.{enter, lacks}
 use Rattle.pruning.specs.Strike.{strike}
 use Rattle.index.specs.Index.{insertingRow, deletingRow}
-use Rattle.index.proofs.Kept.{Accepted, accepted, deleting-tag, insert-sound, insert-length, held-after-insert, delete-sound, delete-length, held-after-delete}
+use Rattle.index.proofs.Kept.{Accepted, accepted, deleting-tag, insert-growth, insert-sound, insert-length, held-after-insert, delete-sound, delete-length, held-after-delete}
 use Rattle.sheet.specs.Bytes.{Bytes, twoLimit}
 use Rattle.sheet.specs.Sheet.{Contents, encode, goodKit, fitting}
 use Rattle.sheet.specs.Reading.{decode, said}
@@ -137,7 +137,7 @@ module _ (n R N : List ℕ) (m : Contents) (v : ℕ) (e : answer (registering n 
   }
 
 -- A kit inserted
-module _ (l : List ℕ) (t : ℕ) (R N : List ℕ) (m : Contents) (b : Brought (tables R N) m) (good : goodList (length (partsOf R)) l ≡ true) (short : length (units l) ≤ mostUnits) (some-tag : 0 < t) (small-tag : t < twoLimit) (A : Accepted (units l) t N) where
+module _ (l : List ℕ) (t : ℕ) (R N : List ℕ) (m : Contents) (b : Brought (tables R N) m) (good : goodList (length (partsOf R)) l ≡ true) (short : length (units l) ≤ mostUnits) (some-tag : 0 < t) (A : Accepted (units l) t N) where
   row : GoodRow (length (partsOf R)) (units l)
   row = good-row (length (partsOf R)) l good short
 
@@ -147,12 +147,16 @@ module _ (l : List ℕ) (t : ℕ) (R N : List ℕ) (m : Contents) (b : Brought (
       let f : tagIn (units l) (held N) ≡ k .tag = ap (λ (r : List ℕ). tagIn r (held N)) e ∙ tag-in k (held N) (held-rows-differ (b .sound .shape)) h in
       omega (arith, A .fresh, held-tagged (b .sound .shape) k h)
 
-  now-held : held (enter N 0 (units l) t) ≡ inOrder (kit (units l) t ∷ m .kits)
+  pub now-held : held (enter N 0 (units l) t) ≡ inOrder (kit (units l) t ∷ m .kits)
   unfolding inOrder
   now-held = held-after-insert (b .sound) row some-tag A ∙ ap (putKit (kit (units l) t)) (b .kits)
 
-  inserted : Brought (tables R (enter N 0 (units l) t)) (has (m .parts) (kit (units l) t ∷ m .kits))
-  inserted = record {
+  -- as many nodes are taken as there are beginnings more
+  pub now-begun : length (allBeginnings (held (enter N 0 (units l) t))) ≡ length (allBeginnings (held N)) + lacks N 0 (units l)
+  now-begun = insert-growth (b .sound) row some-tag A
+
+  inserted : t < twoLimit → Brought (tables R (enter N 0 (units l) t)) (has (m .parts) (kit (units l) t ∷ m .kits))
+  inserted small-tag = record {
     ready = b .ready;
     sized = same-nodes N (enter N 0 (units l) t) (insert-length (b .sound) row some-tag A) (b .sized);
     sound = insert-sound (b .sound) row some-tag A;
@@ -189,15 +193,27 @@ register-kept n T m v e b =
     let R = T .register in
     subst (λ (M : List ℕ). Brought (tables M (T .nodes)) (has (m .parts ++ (n ∷ [])) (m .kits))) (leaves-done (answer (registering n R)) v R (registering n R .after) e) (registered n R (T .nodes) m v e b)
 
-insert-kept : (l : List ℕ) (t : ℕ) (T : Tables) (m : Contents) (v : ℕ) → t < twoLimit → answer (inserting l t T) ≡ done v → Brought T m → Brought (inserting l t T .after) (has (m .parts) (kit (units l) t ∷ m .kits))
+-- what an accepted insertion was given
+pub record Insertion (l : List ℕ) (t : ℕ) (T : Tables) (v : ℕ) : Type 0 where
+  pub good : goodList (partCount T) l ≡ true
+  pub short : length (units l) ≤ mostUnits
+  pub some-tag : 0 < t
+  pub accepted : Accepted (units l) t (T .nodes)
+  pub takes : v ≡ lacks (T .nodes) 0 (units l)
+
+pub insertion : (l : List ℕ) (t : ℕ) (T : Tables) (v : ℕ) → answer (inserting l t T) ≡ done v → Insertion l t T v
 unfolding answer inserting insertingRow
-insert-kept l t T m v h e b =
-    let N = T .nodes in
+insertion l t T v e =
     let a = done-parts (lentBoth T) _ 0 _ v e in
     let z = done-passes _ _ _ _ (a .1) in
     let f = done-parts (listFaults (partCount T) l) _ 0 _ v (z .1) in
     let s = done-passes _ _ _ _ (f .1) in
-    inserted l t (T .register) N m b (good-list (partCount T) l (f .0)) (ltb-false mostUnits (length (units l)) (s .0)) (omega (arith, eqb-false t 0 (z .0))) h (accepted (units l) N t v (s .1) .0)
+    let k = accepted (units l) (T .nodes) t v (s .1) in
+    record { good = good-list (partCount T) l (f .0); short = ltb-false mostUnits (length (units l)) (s .0); some-tag = omega (arith, eqb-false t 0 (z .0)); accepted = k .0; takes = k .1 }
+
+insert-kept : (l : List ℕ) (t : ℕ) (T : Tables) (m : Contents) (v : ℕ) → t < twoLimit → answer (inserting l t T) ≡ done v → Brought T m → Brought (inserting l t T .after) (has (m .parts) (kit (units l) t ∷ m .kits))
+unfolding inserting
+insert-kept l t T m v h e b = let i = insertion l t T v e in inserted l t (T .register) (T .nodes) m b (i .good) (i .short) (i .some-tag) (i .accepted) h
 
 delete-kept : (l : List ℕ) (T : Tables) (m : Contents) (v : ℕ) → answer (deleting l T) ≡ done v → Brought T m → Brought (deleting l T .after) (has (m .parts) (dropKit (units l) (m .kits)))
 unfolding answer deleting deletingRow

@@ -5,4 +5,5 @@ pub mod Questions
 pub mod Brought
 pub mod Answers
 pub mod Sheets
+pub mod Counts
 pub mod ShortCases
