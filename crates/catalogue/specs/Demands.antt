@@ -4,11 +4,11 @@ use mathlib.Core.Path.{_≡_}
 use mathlib.Core.Logic.{_↔_}
 use mathlib.Core.Bool.{Bool, true}
 use mathlib.Core.List.{List, [], _∷_, _++_, List·Memᴰ}
-use Prim.Native.Nat.{ℕ, _+_, _*_, _≤_, _<_}
-use lib.ListN.{length, take, replicate}
+use Prim.Native.Nat.{ℕ, _+_, _*_, _^_, _≤_, _<_}
+use lib.ListN.{length, take, getD, replicate}
 use Rattle.ground.specs.Limits.{mostParts}
 use Rattle.ground.specs.Lists.{keep}
-use Rattle.ground.specs.Calls.{Plan, Reply, done, refused, decide, answer, memory, Promise, Given, setDown}
+use Rattle.ground.specs.Calls.{Plan, Reply, done, refused, valueOf, decide, answer, memory, Promise, Given, setDown}
 use Rattle.register.specs.Register.{slotBytes}
 use Rattle.kits.specs.Kits.{Within, units, before, listFaults}
 use Rattle.nodes.specs.Nodes.{wordsPerNode, mostNodes, nodesLength, usedNodes}
@@ -233,3 +233,8 @@ NodesCounted = (a : Catalogue) → Allowed a → length (usedNodes (tablesOf a .
 
 abbrev pub NodesTaken : Type 0
 NodesTaken = (a : Catalogue) (l : List ℕ) (t v : ℕ) → Allowed a → answer (inserting l t (tablesOf a)) ≡ done v → length (allBeginnings (record { row = units l; tag = t } ∷ entered a .kits)) ≡ length (allBeginnings (entered a .kits)) + v
+
+-- "Each answer is a number (0 for done) and a value below 2^32", whatever is lent: the types say that the node table is 16-bit words and a sheet
+-- bytes. Proof: Values, `values-fit`
+abbrev pub ValuesFit : Type 0
+ValuesFit = (c : Call) (T : Tables) → ((i : ℕ) → getD (T .nodes) i 0 < twoLimit) → ((s : List ℕ) → readSheet s ≡ c → Bytes s) → valueOf (answer (planOf c T)) < 2 ^ 32

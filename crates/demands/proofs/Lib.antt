@@ -6,4 +6,6 @@ pub mod Brought
 pub mod Answers
 pub mod Sheets
 pub mod Counts
+pub mod Offsets
+pub mod Values
 pub mod ShortCases
