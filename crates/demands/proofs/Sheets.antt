@@ -33,7 +33,7 @@ module _ {T : Tables} {m : Contents} (b : Brought T m) where
   abbrev S : List ℕ
   S = encode (listedIn m)
 
-  write-answer : (o : List ℕ) → answer (writing T o) ≡ answer (setDown [] (encode (listedIn m)) o)
+  pub write-answer : (o : List ℕ) → answer (writing T o) ≡ answer (setDown [] (encode (listedIn m)) o)
   unfolding writing
   write-answer o = let c = has-contents b in let n = append-nil (lentBoth T) in rw c (rw n at (down-answer b [] S o))
 
