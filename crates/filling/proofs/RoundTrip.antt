@@ -17,7 +17,7 @@ use Rattle.register.specs.Inner.{Ready}
 use Rattle.register.proofs.Sound.{Holds, few-slots, ready-holds, holds-parts}
 use Rattle.register.proofs.Laws.{sound-is-built}
 use Rattle.nodes.specs.Nodes.{at, tagWord, size, nodesLength, nodesOf, tagged}
-use Rattle.nodes.specs.Sound.{Sound}
+use Rattle.nodes.specs.Sound.{Shape, Sound}
 use Rattle.nodes.specs.Held.{Kit, kitAt, held}
 use Rattle.nodes.proofs.Lists.{kept-and-not}
 use Rattle.nodes.proofs.Fields.{sized-length}
@@ -50,12 +50,15 @@ read-then-write s b T f g v e o h =
     let q = reading-again s b T f g v e in
     rw q at (written (contentsOf (memory (reading s T) T .register) (memory (reading s T) T .nodes)) o (rw q h))
 
--- each word is a 16-bit number
-abbrev pub Words : List ℕ → Type 0
-Words N = (i : ℕ) → getD N i 0 < twoLimit
+-- each tag of a kit held is a 16-bit number, as it is in a table of 16-bit words
+abbrev pub SmallTags : List ℕ → Type 0
+SmallTags N = (k : Kit) → List·Memᴰ k (held N) → k .tag < twoLimit
+
+pub words-small : {parts : ℕ} {N : List ℕ} → Shape parts N → ((i : ℕ) → getD N i 0 < twoLimit) → SmallTags N
+words-small S words k m = let h = held-holds S k m in omega (arith, h .has, words (at (h .node) tagWord))
 
 -- What a sound catalogue has fits the format
-module _ {R N : List ℕ} (ready : Ready R) (sound : Sound (length (partsOf R)) N) (words : Words N) where
+module _ {R N : List ℕ} (ready : Ready R) (sound : Sound (length (partsOf R)) N) (small : SmallTags N) where
   H : Holds R (length (partsOf R))
   H = ready-holds R ready
 
@@ -88,8 +91,7 @@ module _ {R N : List ℕ} (ready : Ready R) (sound : Sound (length (partsOf R)) 
     numbers-once = parts-once;
     few-kits = omega (arith, few-held, sound .shape .sized .most);
     kits-good = mem-allb (goodKit (length (partsOf R))) (held N) (λ k m.
-        let h = held-holds (sound .shape) k m in
-        fits-kit (length (partsOf R)) k (record { row = held-good (sound .shape) k m; some-tag = held-tagged (sound .shape) k m }) (omega (arith, h .has, words (at (h .node) tagWord))));
+        fits-kit (length (partsOf R)) k (record { row = held-good (sound .shape) k m; some-tag = held-tagged (sound .shape) k m }) (small k m));
     tags-once = apart-tags (held-tags-differ sound);
     kits-rise = earlier-rising (held-rises (sound .shape));
   })
