@@ -7,7 +7,7 @@ from .refusals import (
     TAG_ZERO, TOO_MANY_UNITS, WRONG_LENGTH, Refusal)
 
 # The letters that the probe answers today.
-PROBE_LETTERS = "pln"
+PROBE_LETTERS = "eplnkfdwcWCsr"
 
 
 def check_register(lent):

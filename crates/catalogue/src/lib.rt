@@ -193,8 +193,7 @@ fn read_answer(r: ReadSheet) -> Answer
     match r {
         ReadSheet::Kits(n) => Answer::Done(n),
         ReadSheet::AtFault(o) => Answer::Fault(o),
-        ReadSheet::NoSlots(n) => Answer::NoRoom(n),
-        ReadSheet::NoNodes(n) => Answer::NoRoom(n),
+        ReadSheet::NoRoom(n) => Answer::NoRoom(n),
     }
 }
 

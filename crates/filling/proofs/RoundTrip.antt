@@ -30,11 +30,11 @@ use Rattle.sheet.specs.Sheet.{Contents, contentsOf, encode, goodKit, fitting}
 use Rattle.sheet.specs.Reading.{decode, isFault, said}
 use Rattle.sheet.specs.Calls.{writing, sheetRefusals, roomRefusals}
 use Rattle.sheet.proofs.Laws.{decode-encode}
+use Rattle.lent.specs.Lent.{Tables, tables}
 use Rattle.filling.specs.Filling.{filling}
 use Rattle.filling.specs.Read.{reading}
 use Rattle.filling.proofs.Listed.{fits-fitting, earlier-rising, apart-tags, fits-kit}
 use Rattle.filling.proofs.Reading.{Roomy, Has, filling-has, reading-again}
-use Rattle.lent.specs.Lent.{Tables, tables}
 
 -- Writing into an output with room
 written : (c : Contents) (o : List ℕ) → length (encode c) ≤ length o → (answer (writing c o) ≡ done (length (encode c))) × (memory (writing c o) o ≡ laid o 0 (encode c))

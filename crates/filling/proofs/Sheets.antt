@@ -13,7 +13,7 @@ use Rattle.ground.specs.Laid.{zeroed}
 use Rattle.ground.specs.Calls.{done, refused, decide, answer, Promise}
 use Rattle.ground.proofs.Laws.{and-left, and-right}
 use Rattle.ground.proofs.Calls.{promise-refused, promise-done}
-use Rattle.register.specs.Number.{goodNumber}
+use Rattle.register.specs.Number.{longestNumber, goodNumber}
 use Rattle.register.specs.Register.{slotCount, registerLength, registerOf}
 use Rattle.register.proofs.Slots.{number-short}
 use Rattle.nodes.specs.Nodes.{size, nodesLength}
@@ -28,10 +28,10 @@ use Rattle.sheet.proofs.Written.{kit-back, record-size}
 use Rattle.sheet.proofs.Laws.{encode-decode}
 use Rattle.judging.specs.Judged.{judgedOf, sheetOf, numbersAt, endAt, recordAt}
 use Rattle.judging.specs.declared.Judged.the-variants.{Fault, Good}
+use Rattle.lent.specs.Lent.{Tables, tables}
 use Rattle.filling.specs.Filling.{filling}
 use Rattle.filling.specs.Read.{reading, kitsRead, endRead, NumbersStand, KitsStand}
 use Rattle.filling.proofs.Listed.{Fits, fitting-fits}
-use Rattle.lent.specs.Lent.{Tables, tables}
 
 -- Numbers that stand from a place on
 number-on : (s : List ℕ) (at : ℕ) (p : List ℕ) (ps : List (List ℕ)) (rest : List ℕ) → drop at s ≡ numberItems (p ∷ ps) ++ rest → (getD s at 0 ≡ length p) × (take (length p) (drop (at + 1) s) ≡ p) × (drop (at + 1 + length p) s ≡ numberItems ps ++ rest)
@@ -49,7 +49,7 @@ items-long p ps = omega (arith, length-append p (numberItems ps))
 record Stand (s : List ℕ) (at : ℕ) (ps : List (List ℕ)) : Type 0 where
   are : numbersAt s at (length ps) ≡ ps
   end : endAt s at (length ps) ≡ at + length (numberItems ps)
-  short : (k : ℕ) → k < length ps → getD s (endAt s at k) 0 ≤ 24
+  short : (k : ℕ) → k < length ps → getD s (endAt s at k) 0 ≤ longestNumber
 
 numbers-cons : (s : List ℕ) (at k : ℕ) → numbersAt s at (suc k) ≡ take (getD s at 0) (drop (at + 1) s) ∷ numbersAt s (at + 1 + getD s at 0) k
 unfolding numbersAt
@@ -67,14 +67,14 @@ end-start : (s : List ℕ) (at : ℕ) → endAt s at 0 ≡ at
 unfolding endAt
 end-start s at = refl
 
-stand-on : (s : List ℕ) (at : ℕ) (p : List ℕ) (ps : List (List ℕ)) → getD s at 0 ≡ length p → take (length p) (drop (at + 1) s) ≡ p → length p ≤ 24 → Stand s (at + 1 + length p) ps → Stand s at (p ∷ ps)
+stand-on : (s : List ℕ) (at : ℕ) (p : List ℕ) (ps : List (List ℕ)) → getD s at 0 ≡ length p → take (length p) (drop (at + 1) s) ≡ p → length p ≤ longestNumber → Stand s (at + 1 + length p) ps → Stand s at (p ∷ ps)
 stand-on s at p ps e f l n = record {
   are = numbers-cons s at (length ps) ∙ rw (e, f) (ap (_∷_ p) (n .are));
   end = end-cons s at (length ps) ∙ rw e (n .end ∙ (omega (arith, items-long p ps)));
   short = go;
 }
   where
-    go : (k : ℕ) → k < length (p ∷ ps) → getD s (endAt s at k) 0 ≤ 24
+    go : (k : ℕ) → k < length (p ∷ ps) → getD s (endAt s at k) 0 ≤ longestNumber
     go zero u = rw (end-start s at) (omega arith)
     go (suc k) u = rw (end-cons s at k, e) (n .short k (omega arith))
 

@@ -12,7 +12,8 @@ use Rattle.ground.specs.Lists.{allb, concat, isZero}
 use Rattle.ground.specs.Laid.{laid, zeroed}
 use Rattle.ground.proofs.Laws.{zeros-all, allb-drop, allb-take}
 use Rattle.ground.proofs.Laid.{laid-nil, laid-laid, laid-cons, drop-laid, length-laid}
-use Rattle.register.specs.Register.{slotOf, slotAt, slotCount, registerLength, registerOf}
+use Rattle.register.specs.Number.{longestNumber}
+use Rattle.register.specs.Register.{slotBytes, slotOf, slotAt, slotCount, registerLength, registerOf}
 use Rattle.register.proofs.Entered.{length-slotOf, slot-written}
 use Rattle.register.proofs.Sound.{whole}
 use Rattle.sheet.specs.Sheet.{numberItem}
@@ -22,9 +23,9 @@ use Rattle.filling.specs.Read.{NumberStands, NumbersStand}
 
 -- numbers that slots have room for
 abbrev pub Shorts : List (List ℕ) → Type 0
-Shorts ps = (p : List ℕ) → List·Memᴰ p ps → length p ≤ 24
+Shorts ps = (p : List ℕ) → List·Memᴰ p ps → length p ≤ longestNumber
 
-shorts-more : (ps : List (List ℕ)) (p : List ℕ) → Shorts ps → length p ≤ 24 → Shorts (ps ++ (p ∷ []))
+shorts-more : (ps : List (List ℕ)) (p : List ℕ) → Shorts ps → length p ≤ longestNumber → Shorts (ps ++ (p ∷ []))
 shorts-more ps p f h q m = ⊎-elim (λ k. f q k) (λ k. let e : q ≡ p = List·Memᴰ·eq-of-singleton k in rw e h) (List·Memᴰ·append-cases ps m)
 
 -- slots one behind the other
@@ -33,7 +34,7 @@ unfolding concat
 slots-append [] b = refl
 slots-append (x ∷ a) b = rw append-assoc (ap (λ (y : List ℕ). slotOf x ++ y) (slots-append a b))
 
-slots-long : (ps : List (List ℕ)) → Shorts ps → length (concat (map slotOf ps)) ≡ length ps * 32
+slots-long : (ps : List (List ℕ)) → Shorts ps → length (concat (map slotOf ps)) ≡ length ps * slotBytes
 unfolding concat
 slots-long [] f = refl
 slots-long (p ∷ ps) f = length-append (slotOf p) (concat (map slotOf ps)) ∙ (omega (arith, length-slotOf p (f p (List·Memᴰ·head refl)), slots-long ps (λ q m. f q (List·Memᴰ·tail m))))
@@ -43,45 +44,45 @@ unfolding concat
 slots-one p = append-nil (slotOf p)
 
 module _ (m : ℕ) where
-  pub register-none : replicate (m * 32) 0 ≡ registerOf m []
+  pub register-none : replicate (m * slotBytes) 0 ≡ registerOf m []
   unfolding registerOf concat
-  register-none = sym (laid-nil (replicate (m * 32) 0) 0)
+  register-none = sym (laid-nil (replicate (m * slotBytes) 0) 0)
 
   module _ (ps : List (List ℕ)) (f : Shorts ps) (room : length ps ≤ m) where
     abbrev X : List ℕ
     X = concat (map slotOf ps)
 
-    inside : 0 + length X ≤ length (replicate {A = ℕ} (m * 32) 0)
-    inside = omega (arith, slots-long ps f, length-replicate {A = ℕ} (m * 32) 0)
+    inside : 0 + length X ≤ length (replicate {A = ℕ} (m * slotBytes) 0)
+    inside = omega (arith, slots-long ps f, length-replicate {A = ℕ} (m * slotBytes) 0)
 
-    pub register-size : length (registerOf m ps) ≡ m * 32
+    pub register-size : length (registerOf m ps) ≡ m * slotBytes
     unfolding registerOf
-    register-size = length-laid (replicate (m * 32) 0) 0 X inside ∙ length-replicate (m * 32) 0
+    register-size = length-laid (replicate (m * slotBytes) 0) 0 X inside ∙ length-replicate (m * slotBytes) 0
 
     -- what lies behind the slots is free
-    pub rest-free : allb isZero (drop (length ps * 32) (registerOf m ps)) ≡ true
+    pub rest-free : allb isZero (drop (length ps * slotBytes) (registerOf m ps)) ≡ true
     unfolding registerOf
     rest-free =
-        let e : 0 + length X ≡ length ps * 32 = omega (arith, slots-long ps f) in
-        let d = drop-laid (replicate (m * 32) 0) 0 X inside in
-        let g : drop (length ps * 32) (laid (replicate (m * 32) 0) 0 X) ≡ drop (length ps * 32) (replicate (m * 32) 0) = rw (← e) d in
-        rw g (allb-drop isZero (length ps * 32) (replicate (m * 32) 0) (zeros-all (m * 32)))
+        let e : 0 + length X ≡ length ps * slotBytes = omega (arith, slots-long ps f) in
+        let d = drop-laid (replicate (m * slotBytes) 0) 0 X inside in
+        let g : drop (length ps * slotBytes) (laid (replicate (m * slotBytes) 0) 0 X) ≡ drop (length ps * slotBytes) (replicate (m * slotBytes) 0) = rw (← e) d in
+        rw g (allb-drop isZero (length ps * slotBytes) (replicate (m * slotBytes) 0) (zeros-all (m * slotBytes)))
 
     pub slot-free : allb isZero (slotAt (registerOf m ps) (length ps)) ≡ true
     unfolding slotAt
-    slot-free = allb-take isZero 32 (drop (length ps * 32) (registerOf m ps)) rest-free
+    slot-free = allb-take isZero slotBytes (drop (length ps * slotBytes) (registerOf m ps)) rest-free
 
-    pub register-more : (p : List ℕ) → length p ≤ 24 → laid (registerOf m ps) (length ps * 32) (slotOf p) ≡ registerOf m (ps ++ (p ∷ []))
+    pub register-more : (p : List ℕ) → length p ≤ longestNumber → laid (registerOf m ps) (length ps * slotBytes) (slotOf p) ≡ registerOf m (ps ++ (p ∷ []))
     unfolding registerOf
     register-more p h =
-        let e : 0 + length X ≡ length ps * 32 = omega (arith, slots-long ps f) in
-        let l = laid-laid (replicate (m * 32) 0) 0 X (slotOf p) inside in
+        let e : 0 + length X ≡ length ps * slotBytes = omega (arith, slots-long ps f) in
+        let l = laid-laid (replicate (m * slotBytes) 0) 0 X (slotOf p) inside in
         rw (← e, l, slots-append ps (p ∷ []), slots-one p)
 
 -- a number written with its length into a slot that is free
-pub number-set : (R p : List ℕ) (k : ℕ) → k < slotCount R → length p ≤ 24 → allb isZero (slotAt R k) ≡ true → laid R (k * 32) (numberItem p) ≡ laid R (k * 32) (slotOf p)
+pub number-set : (R p : List ℕ) (k : ℕ) → k < slotCount R → length p ≤ longestNumber → allb isZero (slotAt R k) ≡ true → laid R (k * slotBytes) (numberItem p) ≡ laid R (k * slotBytes) (slotOf p)
 unfolding numberItem
-number-set R p k h l z = sym (laid-cons R (k * 32) (length p) p (omega arith)) ∙ slot-written R p k h l z
+number-set R p k h l z = sym (laid-cons R (k * slotBytes) (length p) p (omega arith)) ∙ slot-written R p k h l z
 
 -- a number and its length, as they stand in the sheet and are lent
 module _ {s : List ℕ} {at k : ℕ} {R : List ℕ} (S : NumberStands s at k R) where
@@ -128,7 +129,7 @@ module _ {s : List ℕ} {n : ℕ} {R : List ℕ} (S : NumbersStand s n R) where
   numbers-short zero h = none-short
   numbers-short (suc k) h = subst Shorts (sym (numbers-at-last s 7 k)) (shorts-more (numbersAt s 7 k) (numberHere s (endAt s 7 k)) (numbers-short k (omega arith)) (omega (arith, number-long (stands-next k (omega arith)), S .short k (omega arith))))
 
-  slot-filled : (k : ℕ) → k < n → laid (registerOf (slotCount R) (numbersAt s 7 k)) (k * 32) (numberItem (numberHere s (endAt s 7 k))) ≡ registerOf (slotCount R) (numbersAt s 7 (k + 1))
+  slot-filled : (k : ℕ) → k < n → laid (registerOf (slotCount R) (numbersAt s 7 k)) (k * slotBytes) (numberItem (numberHere s (endAt s 7 k))) ≡ registerOf (slotCount R) (numbersAt s 7 (k + 1))
   slot-filled k h =
       let ps = numbersAt s 7 k in
       let p = numberHere s (endAt s 7 k) in
@@ -136,11 +137,11 @@ module _ {s : List ℕ} {n : ℕ} {R : List ℕ} (S : NumbersStand s n R) where
       let m = slotCount R in
       let c : length ps ≡ k = numbers-many s 7 k in
       let r : length ps ≤ m = omega (arith, S .slots) in
-      let l : length p ≤ 24 = omega (arith, number-long (stands-next k h), S .short k h) in
-      let w : length (registerOf m ps) ≡ m * 32 = register-size m ps f r in
+      let l : length p ≤ longestNumber = omega (arith, number-long (stands-next k h), S .short k h) in
+      let w : length (registerOf m ps) ≡ m * slotBytes = register-size m ps f r in
       let z : allb isZero (slotAt (registerOf m ps) k) ≡ true = subst (λ (i : ℕ). allb isZero (slotAt (registerOf m ps) i) ≡ true) c (slot-free m ps f r) in
       let a = number-set (registerOf m ps) p k (omega (arith, S .slots)) l z in
-      let g : laid (registerOf m ps) (k * 32) (slotOf p) ≡ registerOf m (ps ++ (p ∷ [])) = subst (λ (i : ℕ). laid (registerOf m ps) (i * 32) (slotOf p) ≡ registerOf m (ps ++ (p ∷ []))) c (register-more m ps f r p l) in
+      let g : laid (registerOf m ps) (k * slotBytes) (slotOf p) ≡ registerOf m (ps ++ (p ∷ [])) = subst (λ (i : ℕ). laid (registerOf m ps) (i * slotBytes) (slotOf p) ≡ registerOf m (ps ++ (p ∷ []))) c (register-more m ps f r p l) in
       a ∙ g ∙ ap (registerOf m) (sym (rw (add-one k) (numbers-at-last s 7 k)))
 
   pub entering-start : {Z : List ℕ} → Z ≡ zeroed R → Entering s n Z Z 7 0
@@ -161,7 +162,7 @@ module _ {s : List ℕ} {n : ℕ} {R reg : List ℕ} {at k : ℕ} (E : Entering 
   pub entering-stands : k < n → NumberStands s at k reg
   entering-stands h = let l = entering-size in let x = stands-next (E .stands) k h in rw (E .ends) (record { inside = x .inside; short = x .short; slot = rw l (x .slot) })
 
-  pub entering-on : k < n → (r : ℕ) (Q : List ℕ) → r ≡ nextPlace s at → Q ≡ laid reg (k * 32) (numberItem (numberHere s at)) → Entering s n R Q r (k + 1)
+  pub entering-on : k < n → (r : ℕ) (Q : List ℕ) → r ≡ nextPlace s at → Q ≡ laid reg (k * slotBytes) (numberItem (numberHere s at)) → Entering s n R Q r (k + 1)
   entering-on h r Q e f = record {
     stands = E .stands;
     most = omega arith;

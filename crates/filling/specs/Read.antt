@@ -16,10 +16,10 @@ use Rattle.sheet.specs.Sheet.{placeBytes, goodKit, rising}
 use Rattle.sheet.specs.Reading.{decode, said, recordSize, kitIn}
 use Rattle.sheet.specs.Calls.{sheetRefusals}
 use Rattle.judging.specs.Judged.{nextPlace, endAt, recordAt}
+use Rattle.lent.specs.Lent.{Tables}
 use Rattle.filling.specs.Filling.{filling}
 use Rattle.filling.specs.declared.ReadSheet.{ReadSheet}
 use Rattle.filling.specs.declared.ReadSheet.the-variants.{Kits, AtFault, NoRoom}
-use Rattle.lent.specs.Lent.{Tables}
 
 -- 13, then 12; "kits read"
 unfoldable pub reading : List ℕ → Tables → Plan Tables

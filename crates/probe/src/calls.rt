@@ -1,34 +1,40 @@
 // The letters: each makes one call, on what it needs of the memory lent. A new letter is a line of `call`.
 use crate::reading::Request;
-use crate::replies::Reply;
-use crate::replies::looked_reply;
-use crate::replies::registered_reply;
-use crate::replies::shown_reply;
+use lent::Answer;
 use register::look_up;
 use register::register_number;
 use register::show;
 use register::show_answer;
+use replies::Reply;
+use replies::answer_reply;
+use replies::looked_reply;
+use replies::registered_reply;
+use replies::shown_reply;
 
 // A reply, and the second and third number of a call that has them.
-pub struct Answer {
+pub struct Told {
     pub number: u8,
-    pub value: u32,
-    pub second: u32,
-    pub third: u32,
+    pub value: usize,
+    pub second: usize,
+    pub third: usize,
 }
 
 pub enum Called {
-    Answers(Answer),
+    Answers(Told),
     Unknown,
 }
 
 fn answers(r: Reply) -> Called {
-    Called::Answers(Answer {
+    Called::Answers(Told {
         number: r.number,
         value: r.value,
         second: 0,
         third: 0,
     })
+}
+
+fn tells(a: Answer) -> Called {
+    answers(answer_reply(a))
 }
 
 pub fn call(
@@ -49,6 +55,16 @@ pub fn call(
         b'p' => answers(registered_reply(register_number(reg, input))),
         b'l' => answers(looked_reply(look_up(reg, input))),
         b'n' => answers(shown_reply(show_answer(reg, ask.a))),
+        b'e' => tells(catalogue::empty(reg, nodes)),
+        b'k' => tells(catalogue::insert(reg, nodes, list, ask.a)),
+        b'f' => tells(catalogue::find(reg, nodes, list)),
+        b'd' => tells(catalogue::delete(reg, nodes, list)),
+        b'w' => tells(catalogue::any_within(reg, nodes, list)),
+        b'c' => tells(catalogue::any_containing(reg, nodes, list)),
+        b'W' => tells(catalogue::all_within(reg, nodes, list, places)),
+        b'C' => tells(catalogue::all_containing(reg, nodes, list, places)),
+        b's' => tells(catalogue::write_sheet(reg, nodes, output)),
+        b'r' => tells(catalogue::read_sheet(reg, nodes, input)),
         _ => Called::Unknown,
     }
 }

@@ -11,7 +11,6 @@ ghost use Prim.Native.Nat.{_<_};
 mod calls;
 mod numbers;
 mod reading;
-mod replies;
 mod writing;
 
 use calls::Called;

@@ -1,7 +1,7 @@
 // Writing an answer. What cannot be written is lost: whoever asked is gone.
 ghost use Prim.Native.Nat.{_≤_, _<_};
 ghost use lib.ListN.{length};
-use crate::calls::Answer;
+use crate::calls::Told;
 use crate::calls::shown;
 use crate::numbers::LONG_BYTES;
 use crate::numbers::WORDS_AT_ONCE;
@@ -20,12 +20,12 @@ pub fn write_broken() {
     io::write_all(STDOUT_FILENO, &[BROKEN]);
 }
 
-fn write_head(a: Answer) {
+fn write_head(a: Told) {
     let mut head = [0u8; HEAD_BYTES];
     head[0] = a.number;
-    put_long(&mut head, 1, a.value as usize);
-    put_long(&mut head, 5, a.second as usize);
-    put_long(&mut head, 9, a.third as usize);
+    put_long(&mut head, 1, a.value);
+    put_long(&mut head, 5, a.second);
+    put_long(&mut head, 9, a.third);
     io::write_all(STDOUT_FILENO, &head);
 }
 
@@ -64,7 +64,7 @@ fn write_words(words: &[u16]) {
 // Writes an answer: its numbers, then the blocks R M N P Q O K D.
 pub fn write_answer<'a>(
     ask: Request,
-    answer: Answer,
+    answer: Told,
     r: &'a [u8],
     m: &[u8],
     n: &[u16],

@@ -15,9 +15,6 @@ enum-known-r-2 c = search needs
 enum-known-r-3 : tie.Need-enum-known-r-3
 enum-known-r-3 c = search needs
 
-enum-known-r-4 : tie.Need-enum-known-r-4
-enum-known-r-4 c = search needs
-
 returns : tie.Need-returns
 returns c = sym (ap readReply (c .before .r .given .1))
 
@@ -27,9 +24,6 @@ returns-2 c = sym (ap readReply (c .before .r2 .given .1))
 returns-3 : tie.Need-returns-3
 returns-3 c = sym (ap readReply (c .before .r3 .given .1))
 
-returns-4 : tie.Need-returns-4
-returns-4 c = sym (ap readReply (c .before .r4 .given .1))
-
 pub read-answer-spec : {M : Type 1} → statement M
 read-answer-spec =
     tie.close
@@ -37,8 +31,6 @@ read-answer-spec =
     enum-known-r
     enum-known-r-2
     enum-known-r-3
-    enum-known-r-4
     returns
     returns-2
-    returns-3
-    returns-4)
+    returns-3)

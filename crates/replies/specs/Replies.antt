@@ -1,8 +1,8 @@
--- A reply as the program holds it, and the reply of document 01 that it stands for.
+-- A reply as a program holds it, and the reply of document 01 that it stands for.
 use mathlib.Core.Path.{_≡_}
 use Rattle.ground.specs.Calls as paper
 use Rattle.ground.specs.Calls.{numberOf, valueOf}
-use Rattle.probe.specs.declared.replies.Reply.{Reply}
+use Rattle.replies.specs.declared.Reply.{Reply}
 
 pub record Means (r : Reply) (p : paper.Reply) : Type 0 where
   pub number : r .number ≡ numberOf p

@@ -1,2 +1,0 @@
--- What the contracts of the probe's replies cite.
-pub mod Replies

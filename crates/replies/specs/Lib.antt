@@ -1,0 +1,2 @@
+-- Replies as programs hold them.
+pub mod Replies
