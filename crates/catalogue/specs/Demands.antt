@@ -5,20 +5,19 @@ use mathlib.Core.Logic.{_↔_}
 use mathlib.Core.Bool.{Bool, true}
 use mathlib.Core.List.{List, [], _∷_, _++_, List·Memᴰ}
 use Prim.Native.Nat.{ℕ, _+_, _*_, _^_, _≤_, _<_}
-use lib.ListN.{length, take, getD, replicate}
+use lib.ListN.{length, take, drop, getD, replicate}
 use Rattle.ground.specs.Limits.{mostParts}
 use Rattle.ground.specs.Lists.{keep}
 use Rattle.ground.specs.Calls.{Plan, Reply, done, refused, valueOf, decide, answer, memory, Promise, Given, setDown}
 use Rattle.register.specs.Register.{slotBytes}
 use Rattle.kits.specs.Kits.{Within, units, before, listFaults}
-use Rattle.nodes.specs.Nodes.{wordsPerNode, mostNodes, nodesLength, usedNodes}
-use Rattle.nodes.specs.Sound.{nodesSound}
+use Rattle.nodes.specs.Nodes.{wordsPerNode, mostNodes, usedNodes}
 use Rattle.nodes.specs.Held.{Kit, inOrder, dropKit, tagIn, tagsOf, firstTag, listed, allBeginnings}
-use Rattle.questions.specs.Questions.{isWithin, isContaining, fitting, anyOf}
+use Rattle.questions.specs.Questions.{isWithin, isContaining, fitting}
 use Rattle.sheet.specs.Bytes.{Bytes, twoLimit}
 use Rattle.sheet.specs.Sheet.{Contents, encode}
 use Rattle.sheet.specs.Reading.{decode, said}
-use Rattle.lent.specs.Lent.{Tables, tables, partCount}
+use Rattle.lent.specs.Lent.{Tables, tables, lentList}
 use Rattle.catalogue.specs.Calls.{contents, Call, emptyBoth, registerPart, lookUp, showAt, insertKit, findKit, deleteKit, anyWithin, anyContaining, allWithin, allContaining, writeSheet, readSheet, planOf, inserting, anyKit, allKits, writing, reading}
 
 -- DEMAND 1
@@ -29,6 +28,8 @@ use Rattle.catalogue.specs.Calls.{contents, Call, emptyBoth, registerPar
 -- when, of its refusals in the paper's order, the first that is given has them. Proof: Refusals, `refused-exactly`
 abbrev pub RefusedExactly : Type 0
 RefusedExactly = (c : Call) (T : Tables) (n v : ℕ) → (answer (planOf c T) ≡ refused n v) ↔ Given n v (planOf c T .cases)
+
+-- (specs/Told says the same from any list of calls: each reply in terms of what the accepted calls left.)
 
 -- "and then the tables .. are byte for byte what they were". Proof: Refusals, `refusal-keeps`
 abbrev pub RefusalKeeps : Type 0
@@ -134,26 +135,33 @@ ContainsExactly = (wanted N : List ℕ) (k : Kit) → List·Memᴰ k (fitting is
 abbrev pub TurnedRound : Type 0
 TurnedRound = (k j : Kit) → isWithin (j .row) k ≡ isContaining (k .row) j
 
--- tables that are lent to a question and not refused
-pub record SoundNodes (T : Tables) : Type 0 where
-  pub sized : nodesLength (T .nodes) ≡ true
-  pub sound : nodesSound (partCount T) (T .nodes) ≡ true
+-- tables and a list that are lent to a question and not refused
+abbrev pub Asked : Tables → List ℕ → Type 0
+Asked T l = decide (lentList T l) 0 ≡ done 0
+
+-- any: the tag of the first kit of these; "'No kit fits' is said exactly when none held fits". Proof: Questions, `any-says`, `none-fits`,
+-- `none-contains`
+abbrev pub AnySays : Type 0
+AnySays = (question : Question) (l : List ℕ) (T : Tables) → Asked T l → answer (anyKit question l T) ≡ done (firstTag (fitting question l (T .nodes)))
+
+abbrev pub NoneFits : Type 0
+NoneFits = (bin : List ℕ) (T : Tables) → Asked T bin → (answer (anyKit isWithin bin T) ≡ done 0) ↔ ((k : Kit) → List·Memᴰ k (listed (T .nodes)) → Within (k .row) (units bin) → ⊥)
+
+abbrev pub NoneContains : Type 0
+NoneContains = (wanted : List ℕ) (T : Tables) → Asked T wanted → (answer (anyKit isContaining wanted T) ≡ done 0) ↔ ((k : Kit) → List·Memᴰ k (listed (T .nodes)) → Within (units wanted) (k .row) → ⊥)
 
 -- each kit before all that follow it; so none stands twice
 pub data InOrder : List Kit → Type 0 where
   none : InOrder []
   ahead : {k : Kit} {ks : List Kit} → ((j : Kit) → List·Memᴰ j ks → before (k .row) (j .row) ≡ true) → InOrder ks → InOrder (k ∷ ks)
 
--- "a listing shows each fitting kit once, in the fixed order". Proof: Questions, `listed-in-order`
+-- "a listing shows each fitting kit once, in the fixed order": their tags, and what lies behind them in the output stays. Proof: Questions,
+-- `listed-in-order`, `listing-shows`
 abbrev pub ListedInOrder : Type 0
-ListedInOrder = (question : Question) (l : List ℕ) (T : Tables) → SoundNodes T → InOrder (fitting question l (T .nodes))
+ListedInOrder = (question : Question) (l : List ℕ) (T : Tables) → Asked T l → InOrder (fitting question l (T .nodes))
 
--- ""No kit fits" is said exactly when none held fits". Proof: Questions, `none-fits`, `none-contains`
-abbrev pub NoneFits : Type 0
-NoneFits = (bin : List ℕ) (T : Tables) → SoundNodes T → (anyOf isWithin bin (T .nodes) ≡ 0) ↔ ((k : Kit) → List·Memᴰ k (listed (T .nodes)) → Within (k .row) (units bin) → ⊥)
-
-abbrev pub NoneContains : Type 0
-NoneContains = (wanted : List ℕ) (T : Tables) → SoundNodes T → (anyOf isContaining wanted (T .nodes) ≡ 0) ↔ ((k : Kit) → List·Memᴰ k (listed (T .nodes)) → Within (units wanted) (k .row) → ⊥)
+abbrev pub ListingShows : Type 0
+ListingShows = (question : Question) (l o : List ℕ) (T : Tables) → Asked T l → let ts = tagsOf (fitting question l (T .nodes)) in length ts ≤ length o → (answer (allKits question l T o) ≡ done (length ts)) × (memory (allKits question l T o) o ≡ ts ++ drop (length ts) o)
 
 -- "Part numbers are one only if every character agrees". Proof: Questions, `one-only-if`
 abbrev pub OneOnlyIf : Type 0
@@ -208,9 +216,13 @@ SheetsTell = (a b : Catalogue) (o p s t : List ℕ) → Allowed a → Allowed b 
 abbrev pub SheetIsWritten : Type 0
 SheetIsWritten = (a : Catalogue) (o : List ℕ) → Allowed a → length (encode (listedIn (entered a))) ≤ length o → Writes (tablesOf a) o (encode (listedIn (entered a)))
 
--- "A sheet that was accepted and is written again, with room, is the same sheet". Proof: Sheets, `same-again`
+-- "A sheet that was accepted and is written again, with room, is the same sheet". Proof: Sheets, `same-again`, `no-other`
 abbrev pub SameAgain : Type 0
-SameAgain = (T : Tables) (o s t : List ℕ) (k : ℕ) → Bytes s → answer (reading s T) ≡ done k → Writes (memory (reading s T) T) o t → t ≡ s
+SameAgain = (T : Tables) (o s : List ℕ) (k : ℕ) → Bytes s → answer (reading s T) ≡ done k → length s ≤ length o → Writes (memory (reading s T) T) o s
+
+-- (and no other is written)
+abbrev pub NoOther : Type 0
+NoOther = (T : Tables) (o s t : List ℕ) (k : ℕ) → Bytes s → answer (reading s T) ≡ done k → Writes (memory (reading s T) T) o t → t ≡ s
 
 -- "and no second accepted sheet means the same". Proof: Sheets, `no-second`
 abbrev pub NoSecond : Type 0

@@ -54,7 +54,7 @@ module _ {T : Tables} {m : Contents} (b : Brought T m) where
   lent-good : decide (lentBoth T) 0 ≡ done 0
   lent-good = both-good (T .register) (T .nodes) (b .ready .fits) (b .sized) (b .ready .sound) (sound-test (b .sound))
 
-  behind-tables : (cs : List Case) (v : ℕ) → decide (lentBoth T ++ cs) v ≡ decide cs v
+  pub behind-tables : (cs : List Case) (v : ℕ) → decide (lentBoth T ++ cs) v ≡ decide cs v
   behind-tables cs v = decide-behind (lentBoth T) cs 0 v lent-good
 
   -- a call that sets something down, behind what is refused of the tables

@@ -215,11 +215,15 @@ insert-kept : (l : List ℕ) (t : ℕ) (T : Tables) (m : Contents) (v : ℕ) →
 unfolding inserting
 insert-kept l t T m v h e b = let i = insertion l t T v e in inserted l t (T .register) (T .nodes) m b (i .good) (i .short) (i .some-tag) (i .accepted) h
 
-delete-kept : (l : List ℕ) (T : Tables) (m : Contents) (v : ℕ) → answer (deleting l T) ≡ done v → Brought T m → Brought (deleting l T .after) (has (m .parts) (dropKit (units l) (m .kits)))
+pub delete-held : (l : List ℕ) (T : Tables) (v : ℕ) → answer (deleting l T) ≡ done v → tagIn (units l) (held (T .nodes)) ≢ 0
 unfolding answer deleting deletingRow
-delete-kept l T m v e b =
+delete-held l T v e =
     let a = done-parts (lentList T l) _ 0 _ v e in
-    deleted (units l) (T .register) (T .nodes) m b (deleting-tag (units l) (T .nodes) v (a .1) .0)
+    deleting-tag (units l) (T .nodes) v (a .1) .0
+
+delete-kept : (l : List ℕ) (T : Tables) (m : Contents) (v : ℕ) → answer (deleting l T) ≡ done v → Brought T m → Brought (deleting l T .after) (has (m .parts) (dropKit (units l) (m .kits)))
+unfolding deleting
+delete-kept l T m v e b = deleted (units l) (T .register) (T .nodes) m b (delete-held l T v e)
 
 -- A sheet read
 module _ (s : List ℕ) (T : Tables) (v : ℕ) (h : Bytes s) (fits : registerLength (T .register) ≡ true) (sized : nodesLength (T .nodes) ≡ true) (e : answer (read.reading s T) ≡ done v) where
@@ -235,7 +239,7 @@ module _ (s : List ℕ) (T : Tables) (v : ℕ) (h : Bytes s) (fits : registerLen
   what-fits : Fits (said (decode s))
   what-fits = fitting-fits c (again .1)
 
-  what-is-in : filled.Has (said (decode s)) T (filling (said (decode s)) T)
+  pub what-is-in : filled.Has (said (decode s)) T (filling (said (decode s)) T)
   what-is-in = subst (filled.Has c T) (filled.reading-leaves s h T fits sized v e) (filled.reading-has s h T fits sized v e)
 
   in-order : Rising Earlier (said (decode s) .kits)
@@ -275,6 +279,11 @@ module _ (s : List ℕ) (T : Tables) (v : ℕ) (h : Bytes s) (e : answer (readin
   behind-lengths : answer (read.reading s T) ≡ done v
   unfolding answer reading read.reading
   behind-lengths = done-parts (lengths T) _ 0 _ v e .1
+
+  -- the tables that it leaves have just what the sheet says, and their old lengths
+  pub what-was-read : filled.Has (said (decode s)) T (reading s T .after)
+  unfolding reading
+  what-was-read = what-is-in s T v h (lengths-good .0) (lengths-good .1) behind-lengths
 
   pub read-kept : Brought (reading s T .after) (said (decode s))
   unfolding reading
@@ -334,7 +343,7 @@ room-fits n N h g e = sized-length N (record { whole = omega arith; some-node = 
 zeros-again : (n : ℕ) → zeroed (replicate n 0) ≡ replicate n 0
 zeros-again n = ap (λ (k : ℕ). replicate k 0) (length-replicate {A = ℕ} n 0)
 
-begun-empty : (a : Catalogue) → Allowed a → Brought (begun a) (has [] [])
+pub begun-empty : (a : Catalogue) → Allowed a → Brought (begun a) (has [] [])
 unfolding begun
 begun-empty a h =
     let R : List ℕ = replicate (a .slots * slotBytes) 0 in
@@ -345,7 +354,7 @@ begun-empty a h =
     (slots-fit (a .slots) R (h .some-slot) (h .few-slots) (length-replicate {A = ℕ} (a .slots * slotBytes) 0))
     (room-fits (a .room) N (h .some-node) (h .few-nodes) (length-replicate {A = ℕ} (a .room * wordsPerNode) 0))))
 
-all-typed : (a : Catalogue) → Allowed a → Every Typed (a .calls)
+pub all-typed : (a : Catalogue) → Allowed a → Every Typed (a .calls)
 all-typed a h = mem-every (a .calls) (λ c m. record { tag = λ l t e. h .tags l t (Memᴰ·cast e m); sheet = λ s e. h .sheets s (Memᴰ·cast e m) })
 
 -- The law: the tables of a catalogue are sound and have what its accepted calls left.

@@ -14,7 +14,7 @@ use Rattle.catalogue.specs.Demands.{tablesOf, entered, NodesCounted, NodesTaken
 use Rattle.demands.proofs.Brought.{brought, insertion, now-held, now-begun}
 
 -- the order of the kits does not matter
-as-many : (ks : List Kit) → length (allBeginnings (inOrder ks)) ≡ length (allBeginnings ks)
+pub as-many : (ks : List Kit) → length (allBeginnings (inOrder ks)) ≡ length (allBeginnings ks)
 as-many ks = omega (arith, more-beginnings (inOrder ks) ks (λ k m. order-mem k ks m), more-beginnings ks (inOrder ks) (λ k m. mem-order k ks m))
 
 pub nodes-counted : NodesCounted

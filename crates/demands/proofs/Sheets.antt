@@ -23,7 +23,7 @@ use Rattle.sheet.proofs.Laws.{encode-injective}
 use Rattle.filling.proofs.RoundTrip.{SmallTags, catalogue-fits}
 use Rattle.lent.specs.Lent.{Tables, lentBoth}
 use Rattle.catalogue.specs.Calls.{contents, writing, reading}
-use Rattle.catalogue.specs.Demands.{listedIn, Writes, Agree, SheetsTell, SheetIsWritten, SameAgain, NoSecond}
+use Rattle.catalogue.specs.Demands.{listedIn, Writes, Agree, SheetsTell, SheetIsWritten, SameAgain, NoOther, NoSecond}
 use Rattle.demands.proofs.Model.{HasTag, tag-order, tags-determine}
 use Rattle.demands.proofs.Brought.{Brought, brought, read-kept, sheet-again}
 use Rattle.demands.proofs.Answers.{has-contents, down-answer, down-memory}
@@ -33,7 +33,7 @@ module _ {T : Tables} {m : Contents} (b : Brought T m) where
   abbrev S : List ℕ
   S = encode (listedIn m)
 
-  write-answer : (o : List ℕ) → answer (writing T o) ≡ answer (setDown [] (encode (listedIn m)) o)
+  pub write-answer : (o : List ℕ) → answer (writing T o) ≡ answer (setDown [] (encode (listedIn m)) o)
   unfolding writing
   write-answer o = let c = has-contents b in let n = append-nil (lentBoth T) in rw c (rw n at (down-answer b [] S o))
 
@@ -107,7 +107,12 @@ unfolding memory
 read-in-place s T k h e = subst (λ (M : Tables). Brought M (said (decode s))) (sym (leaves-done (answer (reading s T)) k T (reading s T .after) e)) (read-kept s T k h e)
 
 pub same-again : SameAgain
-same-again T o s t k h e w = written-is (read-in-place s T k h e) o t w ∙ sheet-again s T k h e
+same-again T o s k h e r =
+    let q = sheet-again s T k h e in
+    rw q at (writes (read-in-place s T k h e) o (rw q r))
+
+pub no-other : NoOther
+no-other T o s t k h e w = written-is (read-in-place s T k h e) o t w ∙ sheet-again s T k h e
 
 pub no-second : NoSecond
 no-second T U s t k n h i e f g = sym (sheet-again s T k h e) ∙ ap encode (agree-same (read-in-place s T k h e) (read-in-place t U n i f) g) ∙ sheet-again t U n i f
