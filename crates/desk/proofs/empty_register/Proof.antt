@@ -1,0 +1,12 @@
+use Rattle.desk.proofs.Empty.{empty-ready}
+use Rattle.desk.specs.Sizes.{slots}
+use native.Mathlib.Omega.{arith}
+use mathlib.Core.Path.{refl}
+use Rattle.desk.proofs.empty_register.Statement.{statement}
+use Rattle.desk.proofs.empty_register.Tie as tie
+
+returns : tie.Need-returns
+returns c = (refl, empty-ready slots (omega arith) (omega arith))
+
+pub empty-register-spec : {M : Type 1} → statement M
+empty-register-spec = tie.close (tie.spec returns)

@@ -1,0 +1,76 @@
+use Rattle.desk.proofs.Serving.{keeps-none, room-enough}
+use borrow.Author.Needs.{needs}
+use Rattle.desk.proofs.main.Statement.{statement}
+use Rattle.desk.proofs.main.Tie as tie
+
+empty-register-requires : tie.Need-empty-register-requires
+empty-register-requires c κs = search needs
+
+empty-nodes-requires : tie.Need-empty-nodes-requires
+empty-nodes-requires c κs = search needs
+
+output-places-requires : tie.Need-output-places-requires
+output-places-requires c κs = search needs
+
+sheet-room-requires : tie.Need-sheet-room-requires
+sheet-room-requires c κs = search needs
+
+reply-room-requires : tie.Need-reply-room-requires
+reply-room-requires c κs = search needs
+
+line-room-requires : tie.Need-line-room-requires
+line-room-requires c κs = search needs
+
+buffer-requires : tie.Need-buffer-requires
+buffer-requires c κs = search needs
+
+slice-aggregate-serve : tie.Need-slice-aggregate-serve
+slice-aggregate-serve c = search needs
+
+slice-aggregate-serve-2 : tie.Need-slice-aggregate-serve-2
+slice-aggregate-serve-2 c = search needs
+
+slice-aggregate-serve-3 : tie.Need-slice-aggregate-serve-3
+slice-aggregate-serve-3 c = search needs
+
+slice-aggregate-serve-4 : tie.Need-slice-aggregate-serve-4
+slice-aggregate-serve-4 c = search needs
+
+slice-aggregate-serve-5 : tie.Need-slice-aggregate-serve-5
+slice-aggregate-serve-5 c = search needs
+
+slice-aggregate-serve-6 : tie.Need-slice-aggregate-serve-6
+slice-aggregate-serve-6 c = search needs
+
+slice-aggregate-serve-7 : tie.Need-slice-aggregate-serve-7
+slice-aggregate-serve-7 c = search needs
+
+serve-requires : tie.Need-serve-requires
+serve-requires c κs = (
+  keeps-none _ (c .before .before .before .before .before .before .before .before .line-room .ensures),
+  record { ready = c .before .before .before .before .before .before .before .before .before .before .before .before .before .empty-register .ensures .1; room = room-enough _ _ _ (c .before .before .before .before .before .before .before .before .before .before .before .output-places .ensures) (c .before .before .before .before .before .before .before .before .before .before .sheet-room .ensures) (c .before .before .before .before .before .before .before .before .before .reply-room .ensures) },
+)
+
+returns : tie.Need-returns
+returns c = search needs
+
+pub main-spec : {M : Type 1} → statement M
+main-spec =
+    tie.close
+    (tie.spec
+    empty-register-requires
+    empty-nodes-requires
+    output-places-requires
+    sheet-room-requires
+    reply-room-requires
+    line-room-requires
+    buffer-requires
+    slice-aggregate-serve
+    slice-aggregate-serve-2
+    slice-aggregate-serve-3
+    slice-aggregate-serve-4
+    slice-aggregate-serve-5
+    slice-aggregate-serve-6
+    slice-aggregate-serve-7
+    serve-requires
+    returns)

@@ -1,0 +1,55 @@
+use Rattle.desk.proofs.Serving.{room-kept}
+use Rattle.desk_lines.proofs.Left.{reply-inside, left-by}
+use lib.Seq.{length-take-le}
+use mathlib.Core.Path.{sym, _∙_}
+use borrow.Author.Needs.{needs}
+use Rattle.desk.proofs.reply_to.Statement.{statement}
+use Rattle.desk.proofs.reply_to.Tie as tie
+
+answer-line-requires : tie.Need-answer-line-requires
+answer-line-requires c κs = search needs
+
+slice-reshare-prefix-write-all : tie.Need-slice-reshare-prefix-write-all
+slice-reshare-prefix-write-all c = reply-inside _ _ _ _ _ (c .before .before .before .before .before .before .before .before .before .before .answer-line .ensures .0) (c .before .before .before .before .before .before .before .before .before .before .answer-line .kept .1 .1 .1 .1 .1 .0)
+
+slice-aggregate-write-all : tie.Need-slice-aggregate-write-all
+slice-aggregate-write-all c = sym (length-take-le _ _ (reply-inside _ _ _ _ _ (c .before .before .before .before .before .before .before .before .before .before .before .answer-line .ensures .0) (c .before .before .before .before .before .before .before .before .before .before .before .answer-line .kept .1 .1 .1 .1 .1 .0)))
+
+write-all-requires : tie.Need-write-all-requires
+write-all-requires c κs = search needs
+
+same-length : tie.Need-same-length
+same-length c = search needs
+
+same-length-2 : tie.Need-same-length-2
+same-length-2 c = search needs
+
+same-length-3 : tie.Need-same-length-3
+same-length-3 c = search needs
+
+same-length-4 : tie.Need-same-length-4
+same-length-4 c = search needs
+
+same-length-5 : tie.Need-same-length-5
+same-length-5 c = search needs
+
+returns : tie.Need-returns
+returns c = let k = c .before .before .before .before .before .before .before .before .before .before .before .before .answer-line .kept in (
+  record { ready = c .before .before .before .before .before .before .before .before .before .before .before .before .answer-line .ensures .1; room = room-kept _ _ _ _ _ _ (c .before .before .before .before .before .before .before .before .before .before .before .before .before .before .before .before .before .before .before .before .before .before .before .before .pre .room) (k .1 .1 .1 .0) (k .1 .1 .1 .1 .0) (k .1 .1 .1 .1 .1 .0) },
+  c .before .before .before .before .before .before .before .before .before .before .before .before .answer-line .ensures .0 .left ∙ left-by _ _ _ _,
+)
+
+pub reply-to-spec : {M : Type 1} → statement M
+reply-to-spec =
+    tie.close
+    (tie.spec
+    answer-line-requires
+    slice-reshare-prefix-write-all
+    slice-aggregate-write-all
+    write-all-requires
+    same-length
+    same-length-2
+    same-length-3
+    same-length-4
+    same-length-5
+    returns)

@@ -1,0 +1,294 @@
+-- What each kind of line answers: from the promises of the calls and the bytes set down to the desk's definitions.
+use mathlib.Core.Path.{_≡_, refl, ap, sym, _∙_}
+use mathlib.Core.Bool.{true, false}
+use mathlib.Core.List.{List, [], _∷_, _++_}
+use Prim.Native.Nat.{ℕ, _≤_}
+use native.Mathlib.Omega.{arith}
+use lib.ListN.{length, getD, take, drop}
+use lib.Seq.{length-take-le}
+use borrow.Author.Tests.{eq-eqb, ne-eqb, ltb-false}
+use lib.Dec.{ltb}
+use Rattle.ground.specs.Laid.{laid}
+use Rattle.ground.specs.Calls.{Case, given, Plan, Reply, done, refused, numberOf, valueOf, decide, answer, leaves, memory, Promise, setDown}
+use Rattle.ground.proofs.Calls.{leaves-done, leaves-refused, refusal-keeps, done-passes}
+use Rattle.ground.proofs.Laid.{length-laid}
+use Rattle.register.specs.Register.{registerLength}
+use Rattle.register.specs.Inner.{Ready}
+use Rattle.register.specs.Calls.{registering}
+use Rattle.register.proofs.Laws.{sound-after-registering, length-after-registering}
+use Rattle.questions.specs.Questions.{isWithin, isContaining}
+use Rattle.lent.specs.Lent.{Tables, tables}
+use Rattle.catalogue.specs.Calls.{onRegister, inserting, finding, deleting, anyKit, allKits, writing}
+use Rattle.lent.specs.Answers.{reply}
+use Rattle.lent.specs.declared.Answer.{Answer}
+use Rattle.lent.specs.declared.Answer.the-variants as answered
+use Rattle.desk_text.specs.Amounts.{amountOf}
+use Rattle.desk_text.specs.Letters as letter
+use Rattle.desk_text.specs.Lines.{goodLine, fieldsOf}
+use Rattle.desk_replies.specs.Replies.{replyLine, otherLine, tagsOf, Put}
+use Rattle.desk_replies.proofs.Replies.{put-same}
+use Rattle.desk_lists.specs.Typed.{Typed, typed, stopped, said, wordsRead, lookedUp}
+use Rattle.desk_lists.specs.declared.Read.{Read}
+use Rattle.desk_lists.specs.declared.Read.the-variants as read
+use Rattle.desk_lines.specs.Desk.{Answered, typedFields, called, shown, registerLine, writeLine, withList, asked, askLine, insertLine, inserted, wellFormed, atDesk}
+use Rattle.desk_lines.specs.Inner.{Answers, setDownBy, printed, stopNumber}
+
+-- a register that is ready stays so, whatever is registered
+same-length-allowed : (M R : List ℕ) → length M ≡ length R → registerLength M ≡ registerLength R
+unfolding registerLength
+same-length-allowed M R e = rw e
+
+pub ready-kept : (n R : List ℕ) → Ready R → Ready (memory (registering n R) R)
+ready-kept n R r = go (answer (registering n R)) refl
+  where
+    go : (a : Reply) → answer (registering n R) ≡ a → Ready (memory (registering n R) R)
+    go (refused k v) e = rw (refusal-keeps (registering n R) R k v e) r
+    go (done v) e =
+        record {
+          fits = same-length-allowed (memory (registering n R) R) R (length-after-registering n R v e) ∙ r .fits;
+          sound = sound-after-registering n R v e;
+        }
+
+-- what is set down lies inside the output
+decide-last : (cs : List Case) (c : Case) (v w : ℕ) → decide (cs ++ (c ∷ [])) v ≡ done w → (c .test ≡ false) × (w ≡ v)
+unfolding decide
+decide-last [] c v w e = let p = done-passes c [] v w e in (p .0, cc (p .1))
+decide-last (d ∷ cs) c v w e = decide-last cs c v w (done-passes d (cs ++ (c ∷ [])) v w e .1)
+
+module _ (cs : List Case) (xs o : List ℕ) where
+  set-down-done : (v : ℕ) → answer (setDown cs xs o) ≡ done v → v ≤ length (memory (setDown cs xs o) o)
+  unfolding answer setDown memory
+  set-down-done v e =
+      let p = decide-last cs (given (ltb (length o) (length xs)) 12 (length xs)) (length xs) v e in
+      let h : length xs ≤ length o = ltb-false (length o) (length xs) (p .0) in
+      let m : memory (setDown cs xs o) o ≡ laid o 0 xs = leaves-done (answer (setDown cs xs o)) v o (laid o 0 xs) e in
+      let n : length (memory (setDown cs xs o) o) ≡ length o = ap length m ∙ length-laid o 0 xs (omega arith) in
+      omega (arith, p .1)
+
+  set-down-inside : setDownBy (answer (setDown cs xs o)) ≤ length (memory (setDown cs xs o) o)
+  unfolding leaves
+  set-down-inside = go (answer (setDown cs xs o)) refl
+    where
+      go : (a : Reply) → answer (setDown cs xs o) ≡ a → setDownBy a ≤ length (memory (setDown cs xs o) o)
+      go (refused n v) e = omega arith
+      go (done v) e = set-down-done v e
+
+-- what an answer says that it has set down, as a function that was lent the output promises it
+promised-inside : (p : Plan (List ℕ)) (o : List ℕ) (a : Reply) (m : List ℕ) → setDownBy (answer p) ≤ length (memory p o) → Promise p o a m → setDownBy a ≤ length m
+promised-inside p o a m h q = rw (q .answers, q .lent) h
+
+pub within-inside : (l : List ℕ) (T : Tables) (o : List ℕ) (a : Reply) (m : List ℕ) → Promise (allKits isWithin l T o) o a m → setDownBy a ≤ length m
+unfolding allKits
+within-inside l T o a m q = promised-inside _ o a m (set-down-inside _ _ o) q
+
+pub containing-inside : (l : List ℕ) (T : Tables) (o : List ℕ) (a : Reply) (m : List ℕ) → Promise (allKits isContaining l T o) o a m → setDownBy a ≤ length m
+unfolding allKits
+containing-inside l T o a m q = promised-inside _ o a m (set-down-inside _ _ o) q
+
+pub written-inside : (T : Tables) (o : List ℕ) (a : Reply) (m : List ℕ) → Promise (writing T o) o a m → setDownBy a ≤ length m
+unfolding writing
+written-inside T o a m q = promised-inside _ o a m (set-down-inside _ _ o) q
+
+-- the reply to a call that sets something down
+pub shown-put : {old new : List ℕ} {r : ℕ} (x : ℕ) (print : List ℕ → List ℕ) (p : Plan (List ℕ)) (o : List ℕ) (a : Reply) (m : List ℕ) → Promise p o a m → Put old 0 (printed x print a m) r new → Put old 0 (shown x print p o) r new
+unfolding shown
+shown-put x print p o a m q h = rw (← q .answers, ← q .lent) h
+
+leaves-same : {A : Type 0} (b : Reply) (m : A) → leaves b m m ≡ m
+unfolding leaves
+leaves-same (done v) m = refl
+leaves-same (refused n v) m = refl
+
+-- the reply to a call on the tables
+module _ {old new : List ℕ} {r : ℕ} (x : ℕ) (T : Tables) where
+  pub called-put : (p : Plan Tables) (a : Reply) (U : Tables) → Promise p T a U → Put old 0 (replyLine x (numberOf a) (valueOf a) []) r new → Answers (called x p T) old r new U
+  unfolding called
+  called-put p a U q h = record { put = rw (← q .answers) h; left = q .lent }
+
+-- one that leaves them
+kept-promise : (p : Plan Tables) (T : Tables) (a : Reply) → p .after ≡ T → a ≡ answer p → Promise p T a T
+unfolding memory
+kept-promise p T a e f = record { answers = f; lent = sym (ap (leaves (answer p) T) e ∙ leaves-same (answer p) T) }
+
+finding-keeps : (l : List ℕ) (T : Tables) (a : Reply) → a ≡ answer (finding l T) → Promise (finding l T) T a T
+unfolding finding
+finding-keeps l T a f = kept-promise _ T a refl f
+
+within-keeps : (l : List ℕ) (T : Tables) (a : Reply) → a ≡ answer (anyKit isWithin l T) → Promise (anyKit isWithin l T) T a T
+unfolding anyKit
+within-keeps l T a f = kept-promise _ T a refl f
+
+containing-keeps : (l : List ℕ) (T : Tables) (a : Reply) → a ≡ answer (anyKit isContaining l T) → Promise (anyKit isContaining l T) T a T
+unfolding anyKit
+containing-keeps l T a f = kept-promise _ T a refl f
+
+-- a registration, seen from both tables
+on-register : (b : Reply) (R M N : List ℕ) → leaves b (tables R N) (tables M N) ≡ tables (leaves b R M) N
+unfolding leaves
+on-register (done v) R M N = refl
+on-register (refused n v) R M N = refl
+
+pub register-put : {old new : List ℕ} {r : ℕ} (l R N n : List ℕ) (a : Reply) (M : List ℕ) → n ≡ getD (drop 1 (fieldsOf l)) 0 [] → Promise (registering n R) R a M
+    → Put old 0 (replyLine letter.registers (numberOf a) (valueOf a) []) r new → Answers (registerLine l (tables R N)) old r new (tables M N)
+unfolding registerLine memory answer
+register-put l R N n a M e q h =
+    called-put letter.registers (tables R N) (onRegister (tables R N) (registering (getD (drop 1 (fieldsOf l)) 0 []) R)) a (tables M N)
+    (record { answers = rw (← e) (q .answers); lent = rw (← e) (ap (λ m. tables m N) (q .lent) ∙ sym (on-register (answer (registering n R)) R (registering n R .after) N)) })
+    h
+
+-- a list that was read, or a lookup that was refused
+module _ {old new : List ℕ} {r : ℕ} (x : ℕ) (T : Tables) (asks : List ℕ → Answered) (res : Read) (out : List ℕ) (t : Typed) (s : said res out ≡ t) where
+  pub with-typed : (n : ℕ) (U : Tables) → res ≡ read.List n → Answers (asks (take n out)) old r new U → Answers (withList x T asks t) old r new U
+  unfolding withList
+  with-typed n U e h = let q : t ≡ typed (take n out) = sym s ∙ ap (λ (z : Read). said z out) e in rw q h
+
+  pub with-stopped : (k n : ℕ) → res ≡ read.Refused k → n ≡ stopNumber res → Put old 0 (replyLine x n 0 []) r new → Answers (withList x T asks t) old r new T
+  unfolding withList
+  with-stopped k n e f h =
+      let q : t ≡ stopped k 0 = sym s ∙ ap (λ (z : Read). said z out) e in
+      let g : n ≡ k = f ∙ ap stopNumber e in
+      rw q (record { put = rw (← g) h; left = refl })
+
+-- what is asked of a list, by the letter
+module _ {old new : List ℕ} {r : ℕ} (x : ℕ) (o : List ℕ) (T : Tables) (l : List ℕ) (a : Reply) where
+  pub asked-finds : x ≡ letter.finds → a ≡ answer (finding l T) → Put old 0 (replyLine x (numberOf a) (valueOf a) []) r new → Answers (asked x o T l) old r new T
+  unfolding asked
+  asked-finds e f h = rw (eq-eqb x letter.finds e) (called-put x T (finding l T) a T (finding-keeps l T a f) h)
+
+  module _ (n1 : x ≡ letter.finds → ⊥) where
+    pub asked-deletes : (U : Tables) → x ≡ letter.deletes → Promise (deleting l T) T a U → Put old 0 (replyLine x (numberOf a) (valueOf a) []) r new → Answers (asked x o T l) old r new U
+    unfolding asked
+    asked-deletes U e f h = rw (ne-eqb x letter.finds n1, eq-eqb x letter.deletes e) (called-put x T (deleting l T) a U f h)
+
+    module _ (n2 : x ≡ letter.deletes → ⊥) where
+      pub asked-within : x ≡ letter.anyWithin → a ≡ answer (anyKit isWithin l T) → Put old 0 (replyLine x (numberOf a) (valueOf a) []) r new → Answers (asked x o T l) old r new T
+      unfolding asked
+      asked-within e f h = rw (ne-eqb x letter.finds n1, ne-eqb x letter.deletes n2, eq-eqb x letter.anyWithin e) (called-put x T (anyKit isWithin l T) a T (within-keeps l T a f) h)
+
+      module _ (n3 : x ≡ letter.anyWithin → ⊥) where
+        pub asked-containing : x ≡ letter.anyContaining → a ≡ answer (anyKit isContaining l T) → Put old 0 (replyLine x (numberOf a) (valueOf a) []) r new → Answers (asked x o T l) old r new T
+        unfolding asked
+        asked-containing e f h =
+            rw (ne-eqb x letter.finds n1, ne-eqb x letter.deletes n2, ne-eqb x letter.anyWithin n3, eq-eqb x letter.anyContaining e)
+            (called-put x T (anyKit isContaining l T) a T (containing-keeps l T a f) h)
+
+        module _ (n4 : x ≡ letter.anyContaining → ⊥) (m : List ℕ) (h : Put old 0 (printed x tagsOf a m) r new) where
+          pub asked-all-within : x ≡ letter.allWithin → Promise (allKits isWithin l T o) o a m → Answers (asked x o T l) old r new T
+          unfolding asked
+          asked-all-within e q =
+              rw (ne-eqb x letter.finds n1, ne-eqb x letter.deletes n2, ne-eqb x letter.anyWithin n3, ne-eqb x letter.anyContaining n4, eq-eqb x letter.allWithin e)
+              (record { put = shown-put x tagsOf (allKits isWithin l T o) o a m q h; left = refl })
+
+          pub asked-all-containing : (x ≡ letter.allWithin → ⊥) → Promise (allKits isContaining l T o) o a m → Answers (asked x o T l) old r new T
+          unfolding asked
+          asked-all-containing n5 q =
+              rw (ne-eqb x letter.finds n1, ne-eqb x letter.deletes n2, ne-eqb x letter.anyWithin n3, ne-eqb x letter.anyContaining n4, ne-eqb x letter.allWithin n5)
+              (record { put = shown-put x tagsOf (allKits isContaining l T o) o a m q h; left = refl })
+
+-- a line that asks something of a list, and one that inserts
+module _ {old new : List ℕ} {r : ℕ} (l : List ℕ) (T : Tables) (res : Read) (out : List ℕ) (fs : List (List ℕ)) (s : said res out ≡ lookedUp (T .register) fs) where
+  module _ (x : ℕ) (o : List ℕ) (b : typedFields l ≡ fs) where
+    pub ask-typed : (n : ℕ) (U : Tables) → res ≡ read.List n → Answers (asked x o T (take n out)) old r new U → Answers (askLine x l o T) old r new U
+    unfolding askLine
+    ask-typed n U e h = with-typed x T (asked x o T) res out (lookedUp (T .register) (typedFields l)) (s ∙ ap (lookedUp (T .register)) (sym b)) n U e h
+
+    pub ask-stopped : (k n : ℕ) → res ≡ read.Refused k → n ≡ stopNumber res → Put old 0 (replyLine x n 0 []) r new → Answers (askLine x l o T) old r new T
+    unfolding askLine
+    ask-stopped k n e f h = with-stopped x T (asked x o T) res out (lookedUp (T .register) (typedFields l)) (s ∙ ap (lookedUp (T .register)) (sym b)) k n e f h
+
+  module _ (tag : List ℕ) (b : typedFields l ≡ tag ∷ fs) where
+    pub insert-typed : (n t : ℕ) (a : Reply) (U : Tables) → res ≡ read.List n → t ≡ amountOf tag → Promise (inserting (take n out) t T) T a U → Put old 0 (replyLine letter.inserts (numberOf a) (valueOf a) []) r new → Answers (insertLine l T) old r new U
+    unfolding insertLine inserted
+    insert-typed n t a U e f q h =
+        let y : t ≡ amountOf (getD (typedFields l) 0 []) = f ∙ ap (λ gs. amountOf (getD gs 0 [])) (sym b) in
+        with-typed letter.inserts T (inserted T (amountOf (getD (typedFields l) 0 []))) res out (lookedUp (T .register) (drop 1 (typedFields l))) (s ∙ ap (λ gs. lookedUp (T .register) (drop 1 gs)) (sym b)) n U e
+        (rw (← y) (called-put letter.inserts T (inserting (take n out) t T) a U q h))
+
+    pub insert-stopped : (k n : ℕ) → res ≡ read.Refused k → n ≡ stopNumber res → Put old 0 (replyLine letter.inserts n 0 []) r new → Answers (insertLine l T) old r new T
+    unfolding insertLine
+    insert-stopped k n e f h =
+        with-stopped letter.inserts T (inserted T (amountOf (getD (typedFields l) 0 []))) res out (lookedUp (T .register) (drop 1 (typedFields l))) (s ∙ ap (λ gs. lookedUp (T .register) (drop 1 gs)) (sym b)) k n e f h
+
+pub words-inside : (res : Read) (n m : ℕ) → res ≡ read.List n → wordsRead res ≤ m → n ≤ m
+words-inside res n m e h = let q : wordsRead res ≡ n = ap wordsRead e in omega arith
+
+-- an answer whose number is 0 is done, and every other is refused
+pub zero-done : (a : Answer) → numberOf (reply a) ≡ 0 → reply a ≡ done (valueOf (reply a))
+zero-done (answered.Done v) e = refl
+zero-done answered.WrongLength e = absurd (omega arith)
+zero-done answered.NotSound e = absurd (omega arith)
+zero-done (answered.Unordered k) e = absurd (omega arith)
+zero-done (answered.Unregistered k) e = absurd (omega arith)
+zero-done (answered.Amount k) e = absurd (omega arith)
+zero-done answered.TooMany e = absurd (omega arith)
+zero-done answered.NoTag e = absurd (omega arith)
+zero-done (answered.Held t) e = absurd (omega arith)
+zero-done answered.TagBorne e = absurd (omega arith)
+zero-done answered.NotHeld e = absurd (omega arith)
+zero-done (answered.NoRoom v) e = absurd (omega arith)
+zero-done (answered.Fault o) e = absurd (omega arith)
+
+other-refused : (a : Answer) → (numberOf (reply a) ≡ 0 → ⊥) → reply a ≡ refused (numberOf (reply a)) (valueOf (reply a))
+other-refused (answered.Done v) h = absurd (h refl)
+other-refused answered.WrongLength h = refl
+other-refused answered.NotSound h = refl
+other-refused (answered.Unordered k) h = refl
+other-refused (answered.Unregistered k) h = refl
+other-refused (answered.Amount k) h = refl
+other-refused answered.TooMany h = refl
+other-refused answered.NoTag h = refl
+other-refused (answered.Held t) h = refl
+other-refused answered.TagBorne h = refl
+other-refused answered.NotHeld h = refl
+other-refused (answered.NoRoom v) h = refl
+other-refused (answered.Fault o) h = refl
+
+module _ (a : Answer) (o : List ℕ) where
+  -- refused: nothing behind the value
+  pub printed-refused : {old new : List ℕ} {r : ℕ} (x : ℕ) (print : List ℕ → List ℕ) (n : ℕ) → n ≡ numberOf (reply a) → (n ≡ 0 → ⊥) → Put old 0 (replyLine x (numberOf (reply a)) (valueOf (reply a)) []) r new → Put old 0 (printed x print (reply a) o) r new
+  printed-refused x print n e h p =
+      let q = leaves-refused (reply a) (numberOf (reply a)) (valueOf (reply a)) [] (print (take (valueOf (reply a)) o)) (other-refused a (λ z. h (e ∙ z))) in
+      put-same p (ap (replyLine x (numberOf (reply a)) (valueOf (reply a))) (sym q))
+
+  -- done: what was set down, printed
+  module _ (n v : ℕ) (e : n ≡ numberOf (reply a)) (z : n ≡ 0) (f : v ≡ valueOf (reply a)) (h : setDownBy (reply a) ≤ length o) where
+    done-is : reply a ≡ done (valueOf (reply a))
+    done-is = zero-done a (sym e ∙ z)
+
+    pub done-inside : v ≤ length o
+    done-inside = let q = leaves-done (reply a) (valueOf (reply a)) 0 (valueOf (reply a)) done-is in omega (arith, f)
+
+    pub done-length : length (take v o) ≡ v
+    done-length = length-take-le v o done-inside
+
+    pub printed-done : {old new : List ℕ} {r : ℕ} (x : ℕ) (print : List ℕ → List ℕ) → Put old 0 (replyLine x 0 (length (take v o)) (print (take v o))) r new → Put old 0 (printed x print (reply a) o) r new
+    printed-done x print p =
+        let q = leaves-done (reply a) (valueOf (reply a)) [] (print (take (valueOf (reply a)) o)) done-is in
+        let w = done-length in
+        let y : numberOf (reply a) ≡ 0 = sym e ∙ z in
+        put-same p (ap (λ k. replyLine x 0 k (print (take v o))) w ∙ sym (rw (q, y, ← f) refl))
+
+-- a well formed line, by its letter
+module _ {old new : List ℕ} {r : ℕ} (l o s : List ℕ) (T U : Tables) where
+  pub other-answers : goodLine l ≡ false → Put old 0 otherLine r new → Answers (atDesk l o s T) old r new T
+  unfolding atDesk
+  other-answers e h = rw e (record { put = h; left = refl })
+
+  module _ (g : goodLine l ≡ true) where
+    pub register-answers : getD l 0 0 ≡ letter.registers → Answers (registerLine l T) old r new U → Answers (atDesk l o s T) old r new U
+    unfolding atDesk wellFormed
+    register-answers e h = rw (g, eq-eqb (getD l 0 0) letter.registers e) h
+
+    module _ (n1 : getD l 0 0 ≡ letter.registers → ⊥) where
+      pub insert-answers : getD l 0 0 ≡ letter.inserts → Answers (insertLine l T) old r new U → Answers (atDesk l o s T) old r new U
+      unfolding atDesk wellFormed
+      insert-answers e h = rw (g, ne-eqb (getD l 0 0) letter.registers n1, eq-eqb (getD l 0 0) letter.inserts e) h
+
+      module _ (n2 : getD l 0 0 ≡ letter.inserts → ⊥) where
+        pub write-answers : getD l 0 0 ≡ letter.writes → Put old 0 (writeLine T s .says) r new → Answers (atDesk l o s T) old r new T
+        unfolding atDesk wellFormed writeLine
+        write-answers e h = rw (g, ne-eqb (getD l 0 0) letter.registers n1, ne-eqb (getD l 0 0) letter.inserts n2, eq-eqb (getD l 0 0) letter.writes e) (record { put = h; left = refl })
+
+        pub ask-answers : (getD l 0 0 ≡ letter.writes → ⊥) → Answers (askLine (getD l 0 0) l o T) old r new U → Answers (atDesk l o s T) old r new U
+        unfolding atDesk wellFormed
+        ask-answers n3 h = rw (g, ne-eqb (getD l 0 0) letter.registers n1, ne-eqb (getD l 0 0) letter.inserts n2, ne-eqb (getD l 0 0) letter.writes n3) h

@@ -1,0 +1,128 @@
+use mathlib.Core.Path.{sym, _∙_}
+use native.Mathlib.Omega.{arith}
+use borrow.Author.Tests.{not-true, not-false}
+use Rattle.lent.specs.Lent.{tables}
+use Rattle.desk_lines.proofs.Good.{line-some, list-pairs}
+use Rattle.desk_lines.proofs.Answering.{other-answers, register-answers, insert-answers, write-answers, ask-answers}
+use borrow.Author.Needs.{needs}
+use Rattle.desk_lines.proofs.answer_line.Statement.{statement}
+use Rattle.desk_lines.proofs.answer_line.Tie as tie
+
+good-line-requires : tie.Need-good-line-requires
+good-line-requires c κs = search needs
+
+put-other-requires : tie.Need-put-other-requires
+put-other-requires c κs = search needs
+
+same-length : tie.Need-same-length
+same-length c = search needs
+
+returns : tie.Need-returns
+returns c = let a = c .before .before .before .before .before .before .before .before .before .before .before .before .args in
+    (other-answers (a .line .now) (a .places .now) (a .sheet .now) (tables (a .reg .now) (a .nodes .now)) (tables (a .reg .now) (a .nodes .now)) (sym (c .before .before .before .before .before .good-line .ensures) ∙ not-true _ (c .before .before .before .before .if1 .taken)) (c .before .before .put-other .ensures), c .before .before .before .before .before .before .before .before .before .before .before .before .pre .0)
+
+shared-slice-read-letter : tie.Need-shared-slice-read-letter
+shared-slice-read-letter c = line-some _ (sym (c .before .before .good-line .ensures) ∙ not-false _ (c .before .if1 .left))
+
+register-line-requires : tie.Need-register-line-requires
+register-line-requires c κs = (record { good = sym (c .before .before .before .before .before .before .good-line .ensures) ∙ not-false _ (c .before .before .before .before .before .if1 .left); letter = c .before .before .before .if2 .taken }, (c .before .before .before .before .before .before .before .before .before .before .before .before .before .pre .0, omega (arith, c .before .before .before .before .before .before .before .before .before .before .before .before .before .pre .1 .written)))
+
+same-length-2 : tie.Need-same-length-2
+same-length-2 c = search needs
+
+same-length-3 : tie.Need-same-length-3
+same-length-3 c = search needs
+
+same-length-4 : tie.Need-same-length-4
+same-length-4 c = search needs
+
+returns-2 : tie.Need-returns-2
+returns-2 c = let a = c .before .before .before .before .before .before .before .before .before .before .before .before .before .before .before .before .before .before .args in
+    (register-answers (a .line .now) (a .places .now) (a .sheet .now) (tables (a .reg .now) (a .nodes .now)) _ (sym (c .before .before .before .before .before .before .before .before .before .before .before .good-line .ensures) ∙ not-false _ (c .before .before .before .before .before .before .before .before .before .before .if1 .left)) (c .before .before .before .before .before .before .before .before .if2 .taken) (c .before .before .before .before .register-line .ensures .0), c .before .before .before .before .register-line .ensures .1)
+
+insert-line-requires : tie.Need-insert-line-requires
+insert-line-requires c κs = (record { good = sym (c .before .before .before .before .before .before .before .good-line .ensures) ∙ not-false _ (c .before .before .before .before .before .before .if1 .left); letter = c .before .before .before .if3 .taken }, (c .before .before .before .before .before .before .before .before .before .before .before .before .before .before .pre .0, omega (arith, c .before .before .before .before .before .before .before .before .before .before .before .before .before .before .pre .1 .written)))
+
+same-length-5 : tie.Need-same-length-5
+same-length-5 c = search needs
+
+same-length-6 : tie.Need-same-length-6
+same-length-6 c = search needs
+
+same-length-7 : tie.Need-same-length-7
+same-length-7 c = search needs
+
+returns-3 : tie.Need-returns-3
+returns-3 c = let a = c .before .before .before .before .before .before .before .before .before .before .before .before .before .before .before .before .before .before .before .args in
+    (insert-answers (a .line .now) (a .places .now) (a .sheet .now) (tables (a .reg .now) (a .nodes .now)) _ (sym (c .before .before .before .before .before .before .before .before .before .before .before .before .good-line .ensures) ∙ not-false _ (c .before .before .before .before .before .before .before .before .before .before .before .if1 .left)) (c .before .before .before .before .before .before .before .before .before .if2 .left) (c .before .before .before .before .before .before .before .before .if3 .taken) (c .before .before .before .before .insert-line .ensures), c .before .before .before .before .before .before .before .before .before .before .before .before .before .before .before .before .before .before .before .pre .0)
+
+write-line-requires : tie.Need-write-line-requires
+write-line-requires c κs = search needs
+
+same-length-8 : tie.Need-same-length-8
+same-length-8 c = search needs
+
+same-length-9 : tie.Need-same-length-9
+same-length-9 c = search needs
+
+same-length-10 : tie.Need-same-length-10
+same-length-10 c = search needs
+
+same-length-11 : tie.Need-same-length-11
+same-length-11 c = search needs
+
+returns-4 : tie.Need-returns-4
+returns-4 c = let a = c .before .before .before .before .before .before .before .before .before .before .before .before .before .before .before .before .before .before .before .before .before .args in
+    (write-answers (a .line .now) (a .places .now) (a .sheet .now) (tables (a .reg .now) (a .nodes .now)) (tables (a .reg .now) (a .nodes .now)) (sym (c .before .before .before .before .before .before .before .before .before .before .before .before .before .before .good-line .ensures) ∙ not-false _ (c .before .before .before .before .before .before .before .before .before .before .before .before .before .if1 .left)) (c .before .before .before .before .before .before .before .before .before .before .before .if2 .left) (c .before .before .before .before .before .before .before .before .before .before .if3 .left) (c .before .before .before .before .before .before .before .before .before .if4 .taken) (c .before .before .before .before .write-line .ensures), c .before .before .before .before .before .before .before .before .before .before .before .before .before .before .before .before .before .before .before .before .before .pre .0)
+
+ask-line-requires : tie.Need-ask-line-requires
+ask-line-requires c κs = let g = sym (c .before .before .before .before .before .before .before .before .before .good-line .ensures) ∙ not-false _ (c .before .before .before .before .before .before .before .before .if1 .left) in
+    (list-pairs (c .before .before .before .before .before .before .before .before .before .before .before .before .before .before .before .before .args .line .now) g (c .before .before .before .before .before .before .if2 .left) (c .before .before .before .before .before .if3 .left) (c .before .before .before .before .if4 .left), (g, (c .before .before .before .before .before .before .before .before .before .before .before .before .before .before .before .before .pre .0, c .before .before .before .before .before .before .before .before .before .before .before .before .before .before .before .before .pre .1 .listing)))
+
+same-length-12 : tie.Need-same-length-12
+same-length-12 c = search needs
+
+same-length-13 : tie.Need-same-length-13
+same-length-13 c = search needs
+
+same-length-14 : tie.Need-same-length-14
+same-length-14 c = search needs
+
+same-length-15 : tie.Need-same-length-15
+same-length-15 c = search needs
+
+returns-5 : tie.Need-returns-5
+returns-5 c = let a = c .before .before .before .before .before .before .before .before .before .before .before .before .before .before .before .before .before .before .before .before .before .before .before .args in
+    (ask-answers (a .line .now) (a .places .now) (a .sheet .now) (tables (a .reg .now) (a .nodes .now)) _ (sym (c .before .before .before .before .before .before .before .before .before .before .before .before .before .before .before .before .good-line .ensures) ∙ not-false _ (c .before .before .before .before .before .before .before .before .before .before .before .before .before .before .before .if1 .left)) (c .before .before .before .before .before .before .before .before .before .before .before .before .before .if2 .left) (c .before .before .before .before .before .before .before .before .before .before .before .before .if3 .left) (c .before .before .before .before .before .before .before .before .before .before .before .if4 .left) (c .before .before .before .before .before .before .ask-line .ensures), c .before .before .before .before .before .before .before .before .before .before .before .before .before .before .before .before .before .before .before .before .before .before .before .pre .0)
+
+pub answer-line-spec : {M : Type 1} → statement M
+answer-line-spec =
+    tie.close
+    (tie.spec
+    good-line-requires
+    put-other-requires
+    same-length
+    returns
+    shared-slice-read-letter
+    register-line-requires
+    same-length-2
+    same-length-3
+    same-length-4
+    returns-2
+    insert-line-requires
+    same-length-5
+    same-length-6
+    same-length-7
+    returns-3
+    write-line-requires
+    same-length-8
+    same-length-9
+    same-length-10
+    same-length-11
+    returns-4
+    ask-line-requires
+    same-length-12
+    same-length-13
+    same-length-14
+    same-length-15
+    returns-5)

@@ -1,0 +1,29 @@
+use Rattle.desk_replies.proofs.Replies.{put-same}
+use borrow.Author.Needs.{needs}
+use Rattle.desk_lines.proofs.put_answer.Statement.{statement}
+use Rattle.desk_lines.proofs.put_answer.Tie as tie
+use Rattle.desk_lines.proofs.put_answer.Reads as reads
+use Rattle.desk_lines.proofs.put_answer.Lts as lts
+use Rattle.desk_replies.proofs.put_reply.Reads as put-reply-reads
+use Rattle.ground.proofs.wide8.Reads as wide8-reads
+use Rattle.replies.proofs.answer_reply.Reads as answer-reply-reads
+
+answer-reply-requires : tie.Need-answer-reply-requires
+answer-reply-requires c κs = search needs
+
+wide8-requires : tie.Need-wide8-requires
+wide8-requires c κs = search needs
+
+put-reply-requires : tie.Need-put-reply-requires
+put-reply-requires c κs = search needs
+
+same-length : tie.Need-same-length
+same-length c = search needs
+
+returns : tie.Need-returns
+returns c = put-same (c .before .before .put-reply .ensures) (cc)
+
+pub put-answer-spec : {M : Type 1} → statement M
+put-answer-spec =
+    tie.close
+    (tie.spec answer-reply-requires wide8-requires put-reply-requires same-length returns)

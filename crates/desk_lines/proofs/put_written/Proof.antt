@@ -1,0 +1,61 @@
+use Rattle.desk_lines.proofs.Answering.{printed-refused, printed-done, done-length, done-inside}
+use Rattle.desk_lines.specs.Desk.{sheetText}
+use Rattle.desk_text.specs.Letters.{writes}
+use native.Mathlib.Omega.{arith}
+use mathlib.Core.Path.{sym}
+use borrow.Author.Needs.{needs}
+use Rattle.desk_lines.proofs.put_written.Statement.{statement}
+use Rattle.desk_lines.proofs.put_written.Tie as tie
+use Rattle.desk_lines.proofs.put_written.Reads as reads
+use Rattle.desk_lines.proofs.put_written.Lts as lts
+use Rattle.desk_lines.proofs.put_answer.Reads as put-answer-reads
+use Rattle.desk_replies.proofs.put_sheet.Reads as put-sheet-reads
+use Rattle.replies.proofs.answer_reply.Reads as answer-reply-reads
+
+answer-reply-requires : tie.Need-answer-reply-requires
+answer-reply-requires c κs = search needs
+
+put-answer-requires : tie.Need-put-answer-requires
+put-answer-requires c κs = search needs
+
+same-length : tie.Need-same-length
+same-length c = search needs
+
+returns : tie.Need-returns
+returns c = let a = c .before .before .before .before .before .before .before .before .before .args in
+    let m = c .before .before .before .before .before .before .answer-reply .ensures in
+    printed-refused (a .a) (a .sheet .now) writes sheetText (c .before .before .before .before .before .before .answer-reply .result .number) (m .number) (c .before .before .before .before .if1 .taken) (c .before .before .put-answer .ensures)
+
+slice-aggregate-put-sheet : tie.Need-slice-aggregate-put-sheet
+slice-aggregate-put-sheet c = let a = c .before .before .before .before .before .before .before .args in
+    let m = c .before .before .before .before .answer-reply .ensures in
+    sym (done-length (a .a) (a .sheet .now) _ _ (m .number) (c .before .before .if1 .left) (m .value) (c .before .before .before .before .before .before .before .pre .1))
+
+put-sheet-requires : tie.Need-put-sheet-requires
+put-sheet-requires c κs = let a = c .before .before .before .before .before .before .before .args in
+    let m = c .before .before .before .before .answer-reply .ensures in
+    let n = done-length (a .a) (a .sheet .now) _ _ (m .number) (c .before .before .if1 .left) (m .value) (c .before .before .before .before .before .before .before .pre .1) in
+    let i = done-inside (a .a) (a .sheet .now) _ _ (m .number) (c .before .before .if1 .left) (m .value) (c .before .before .before .before .before .before .before .pre .1) in
+    omega (arith, c .before .before .before .before .before .before .before .pre .0)
+
+same-length-2 : tie.Need-same-length-2
+same-length-2 c = search needs
+
+returns-2 : tie.Need-returns-2
+unfolding sheetText
+returns-2 c = let a = c .before .before .before .before .before .before .before .before .before .before .args in
+    let m = c .before .before .before .before .before .before .before .answer-reply .ensures in
+    printed-done (a .a) (a .sheet .now) _ _ (m .number) (c .before .before .before .before .before .if1 .left) (m .value) (c .before .before .before .before .before .before .before .before .before .before .pre .1) writes sheetText (c .before .before .put-sheet .ensures)
+
+pub put-written-spec : {M : Type 1} → statement M
+put-written-spec =
+    tie.close
+    (tie.spec
+    answer-reply-requires
+    put-answer-requires
+    same-length
+    returns
+    slice-aggregate-put-sheet
+    put-sheet-requires
+    same-length-2
+    returns-2)

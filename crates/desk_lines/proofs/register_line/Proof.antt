@@ -1,0 +1,67 @@
+use Rattle.desk_lines.proofs.Answering.{ready-kept, register-put}
+use Rattle.desk_lines.proofs.Good.{number-there, number-typed}
+use Rattle.desk_replies.proofs.Replies.{put-same}
+use Rattle.register.specs.Calls.{registeredReply}
+use Rattle.register.specs.Inner.{Ready}
+use Prim.Native.Nat.{ℕ}
+use mathlib.Core.List.{List}
+use mathlib.Core.Path.{sym, subst}
+use borrow.Author.Needs.{needs}
+use Rattle.desk_lines.proofs.register_line.Statement.{statement}
+use Rattle.desk_lines.proofs.register_line.Tie as tie
+use Rattle.desk_lines.proofs.register_line.Reads as reads
+use Rattle.desk_lines.proofs.register_line.Lts as lts
+use Rattle.desk_replies.proofs.put_reply.Reads as put-reply-reads
+use Rattle.ground.proofs.wide8.Reads as wide8-reads
+use Rattle.register.proofs.register_in.Reads as register-in-reads
+use Rattle.replies.proofs.registered_reply.Reads as registered-reply-reads
+
+sub-register-in : tie.Need-sub-register-in
+sub-register-in c = number-there _ (c .before .before .before .before .before .pre .0 .good) (c .before .before .before .before .before .pre .0 .letter)
+
+part-register-in-start : tie.Need-part-register-in-start
+part-register-in-start c = number-there _ (c .before .before .before .before .before .pre .0 .good) (c .before .before .before .before .before .pre .0 .letter)
+
+part-register-in-end : tie.Need-part-register-in-end
+part-register-in-end c = search needs
+
+register-in-requires : tie.Need-register-in-requires
+register-in-requires c κs = search needs
+
+registered-reply-requires : tie.Need-registered-reply-requires
+registered-reply-requires c κs = search needs
+
+wide8-requires : tie.Need-wide8-requires
+wide8-requires c κs = search needs
+
+put-reply-requires : tie.Need-put-reply-requires
+put-reply-requires c κs = search needs
+
+same-length : tie.Need-same-length
+same-length c = search needs
+
+same-length-2 : tie.Need-same-length-2
+same-length-2 c = search needs
+
+returns : tie.Need-returns
+returns c = let a = c .before .before .before .before .before .before .before .before .before .before .before .before .before .before .before .args in
+    let n = number-typed (a .line .now) (c .before .before .before .before .before .before .before .before .before .before .before .before .before .before .before .pre .0 .good) (c .before .before .before .before .before .before .before .before .before .before .before .before .before .before .before .pre .0 .letter) in
+    let p = c .before .before .before .before .before .before .before .before .register-in .ensures in (
+      register-put (a .line .now) (a .reg .now) (a .nodes .now) _ (registeredReply (c .before .before .before .before .before .before .before .before .register-in .result)) _ (sym n) p (put-same (c .before .before .put-reply .ensures) (cc)),
+      subst (λ (m : List ℕ). Ready m) (sym (p .lent)) (ready-kept _ (a .reg .now) (c .before .before .before .before .before .before .before .before .before .before .before .before .before .before .before .pre .1 .0)),
+    )
+
+pub register-line-spec : {M : Type 1} → statement M
+register-line-spec =
+    tie.close
+    (tie.spec
+    sub-register-in
+    part-register-in-start
+    part-register-in-end
+    register-in-requires
+    registered-reply-requires
+    wide8-requires
+    put-reply-requires
+    same-length
+    same-length-2
+    returns)

@@ -1,0 +1,32 @@
+use native.Mathlib.Omega.{arith}
+use Rattle.lent.specs.Lent.{tables}
+use Rattle.catalogue.specs.Calls.{writing}
+use Rattle.desk_text.specs.Letters.{writes}
+use Rattle.desk_lines.specs.Desk.{sheetText, writeLine}
+use Rattle.desk_lines.proofs.Answering.{written-inside, shown-put}
+use borrow.Author.Needs.{needs}
+use Rattle.desk_lines.proofs.write_line.Statement.{statement}
+use Rattle.desk_lines.proofs.write_line.Tie as tie
+
+write-sheet-requires : tie.Need-write-sheet-requires
+write-sheet-requires c κs = search needs
+
+put-written-requires : tie.Need-put-written-requires
+put-written-requires c κs = let a = c .before .before .before .before .before .before .before .before .before .before .args in
+    (omega (arith, c .before .before .before .before .write-sheet .kept .1 .1 .0), written-inside (tables (a .reg .now) (a .nodes .now)) (a .sheet .now) _ _ (c .before .before .before .before .write-sheet .ensures))
+
+same-length : tie.Need-same-length
+same-length c = search needs
+
+same-length-2 : tie.Need-same-length-2
+same-length-2 c = search needs
+
+returns : tie.Need-returns
+unfolding writeLine
+returns c = let a = c .before .before .before .before .before .before .before .before .before .before .before .before .before .args in
+    shown-put writes sheetText (writing (tables (a .reg .now) (a .nodes .now)) (a .sheet .now)) (a .sheet .now) _ _ (c .before .before .before .before .before .before .before .write-sheet .ensures) (c .before .before .put-written .ensures)
+
+pub write-line-spec : {M : Type 1} → statement M
+write-line-spec =
+    tie.close
+    (tie.spec write-sheet-requires put-written-requires same-length same-length-2 returns)

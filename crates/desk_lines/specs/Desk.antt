@@ -1,0 +1,85 @@
+-- Document 01, "The desk program": what each line answers, and the tables afterwards, over the definitions of the calls.
+use mathlib.Core.Bool.{cond}
+use mathlib.Core.List.{List, [], _∷_}
+use Prim.Native.Nat.{ℕ}
+use lib.ListN.{getD, take, drop}
+use lib.Dec.{eqb}
+use Rattle.ground.specs.Calls.{Plan, answer, leaves, memory, numberOf, valueOf}
+use Rattle.register.specs.Calls.{registering}
+use Rattle.questions.specs.Questions.{isWithin, isContaining}
+use Rattle.lent.specs.Lent.{Tables}
+use Rattle.catalogue.specs.Calls.{onRegister, inserting, finding, deleting, anyKit, allKits, writing}
+use Rattle.desk_text.specs.Amounts.{amountOf}
+use Rattle.desk_text.specs.Letters as letter
+use Rattle.desk_text.specs.Lines.{space, fieldsOf, goodLine}
+use Rattle.desk_replies.specs.Replies.{hexOf, tagsOf, replyLine, otherLine}
+use Rattle.desk_lists.specs.Typed.{Typed, typed, stopped, lookedUp}
+
+-- a reply, and the tables afterwards
+pub record Answered : Type 0 where
+  pub says : List ℕ
+  pub after : Tables
+
+-- "A reply line is letter, number, value": the reply of a call on the tables T
+unfoldable pub called : ℕ → Plan Tables → Tables → Answered
+called x p T = record { says = replyLine x (numberOf (answer p)) (valueOf (answer p)) []; after = memory p T }
+
+-- "then tags for b and s, or the sheet in capital hex for W, when done": the reply of a call that sets something down in the output o
+unfoldable pub shown : ℕ → (List ℕ → List ℕ) → Plan (List ℕ) → List ℕ → List ℕ
+shown x print p o = replyLine x (numberOf (answer p)) (valueOf (answer p)) (leaves (answer p) [] (print (take (valueOf (answer p)) (memory p o))))
+
+unfoldable pub sheetText : List ℕ → List ℕ
+sheetText s = space ∷ hexOf s
+
+-- the fields behind the letter
+abbrev pub typedFields : List ℕ → List (List ℕ)
+typedFields l = drop 1 (fieldsOf l)
+
+-- "P number registers"
+unfoldable pub registerLine : List ℕ → Tables → Answered
+registerLine l T = called letter.registers (onRegister T (registering (getD (typedFields l) 0 []) (T .register))) T
+
+-- "W writes", into the lent sheet s
+unfoldable pub writeLine : Tables → List ℕ → Answered
+writeLine T s = record { says = shown letter.writes sheetText (writing T s) s; after = T }
+
+-- "Part numbers are looked up first, left to right; a lookup refusal is the answer": what the letter x then asks of the list
+unfoldable pub withList : ℕ → Tables → (List ℕ → Answered) → Typed → Answered
+withList x T asks (typed l) = asks l
+withList x T asks (stopped n v) = record { says = replyLine x n v []; after = T }
+
+-- "K tag, then number and quantity pairs, inserts"
+unfoldable pub inserted : Tables → ℕ → List ℕ → Answered
+inserted T t l = called letter.inserts (inserting l t T) T
+
+unfoldable pub insertLine : List ℕ → Tables → Answered
+insertLine l T = withList letter.inserts T (inserted T (amountOf (getD (typedFields l) 0 []))) (lookedUp (T .register) (drop 1 (typedFields l)))
+
+-- "F finds; D deletes; B any within; S any containing; b and s list all", in the lent places o
+unfoldable pub asked : ℕ → List ℕ → Tables → List ℕ → Answered
+asked x o T l =
+    cond (eqb x letter.finds) (called x (finding l T) T)
+    (cond (eqb x letter.deletes) (called x (deleting l T) T)
+    (cond (eqb x letter.anyWithin) (called x (anyKit isWithin l T) T)
+    (cond (eqb x letter.anyContaining) (called x (anyKit isContaining l T) T)
+    (cond (eqb x letter.allWithin) (record { says = shown x tagsOf (allKits isWithin l T o) o; after = T })
+    (record { says = shown x tagsOf (allKits isContaining l T o) o; after = T })))))
+
+unfoldable pub askLine : ℕ → List ℕ → List ℕ → Tables → Answered
+askLine x l o T = withList x T (asked x o T) (lookedUp (T .register) (typedFields l))
+
+-- what a well formed line answers, by its letter
+unfoldable pub wellFormed : List ℕ → List ℕ → List ℕ → Tables → Answered
+wellFormed l o s T =
+    cond (eqb (getD l 0 0) letter.registers) (registerLine l T)
+    (cond (eqb (getD l 0 0) letter.inserts) (insertLine l T)
+    (cond (eqb (getD l 0 0) letter.writes) (writeLine T s)
+    (askLine (getD l 0 0) l o T)))
+
+-- "Other lines answer `?`, once each"
+unfoldable pub atDesk : List ℕ → List ℕ → List ℕ → Tables → Answered
+atDesk l o s T = cond (goodLine l) (wellFormed l o s T) (record { says = otherLine; after = T })
+
+-- the tables after a line: the same whatever outputs are lent (proofs/Left, `left-by`)
+unfoldable pub leftBy : List ℕ → Tables → Tables
+leftBy l T = atDesk l [] [] T .after

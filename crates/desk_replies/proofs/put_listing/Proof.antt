@@ -1,0 +1,40 @@
+use mathlib.Core.Path.{refl}
+use mathlib.Core.List.{[], _∷_}
+use native.Mathlib.Omega.{arith}
+use lib.ListN.{length}
+use Rattle.desk_replies.specs.Replies.{tagsOf}
+use Rattle.desk_text.specs.Lines.{lineFeed}
+use Rattle.desk_replies.proofs.Replies.{listing-room, head-fits, behind-head, rest-room, rest-put, rest-byte-room, rest-last}
+use borrow.Author.Needs.{needs}
+use Rattle.desk_replies.proofs.put_listing.Statement.{statement}
+use Rattle.desk_replies.proofs.put_listing.Tie as tie
+
+put-head-requires : tie.Need-put-head-requires
+put-head-requires c κs = let a = c .before .before .before .args in
+    let ts = a .tags .now in
+    head-fits (a .letter) 0 (length ts) (tagsOf ts) (a .out .now) (listing-room (a .letter) (a .out .now) ts (λ i. omega (arith, c .before .shared-slice-known .given i)) (omega arith) (c .before .before .before .pre))
+
+put-tags-requires : tie.Need-put-tags-requires
+put-tags-requires c κs = let a = c .before .before .before .before .before .before .before .args in
+    let ts = a .tags .now in
+    let h = listing-room (a .letter) (a .out .now) ts (λ i. omega (arith, c .before .before .before .before .before .shared-slice-known .given i)) (omega arith) (c .before .before .before .before .before .before .before .pre) in
+    rest-room (tagsOf ts) (lineFeed ∷ []) (behind-head (a .letter) 0 (length ts) (tagsOf ts) h (c .before .before .before .put-head .ensures)) refl
+
+put-byte-requires : tie.Need-put-byte-requires
+put-byte-requires c κs = let a = c .before .before .before .before .before .before .before .before .before .before .before .args in
+    let ts = a .tags .now in
+    let h = listing-room (a .letter) (a .out .now) ts (λ i. omega (arith, c .before .before .before .before .before .before .before .before .before .shared-slice-known .given i)) (omega arith) (c .before .before .before .before .before .before .before .before .before .before .before .pre) in
+    rest-byte-room (rest-put {more = lineFeed ∷ []} (behind-head (a .letter) 0 (length ts) (tagsOf ts) h (c .before .before .before .before .before .before .before .put-head .ensures)) refl (c .before .before .before .put-tags .ensures)) refl
+
+same-length : tie.Need-same-length
+same-length c = search needs
+
+returns : tie.Need-returns
+returns c = let a = c .before .before .before .before .before .before .before .before .before .before .before .before .before .before .args in
+    let ts = a .tags .now in
+    let h = listing-room (a .letter) (a .out .now) ts (λ i. omega (arith, c .before .before .before .before .before .before .before .before .before .before .before .before .shared-slice-known .given i)) (omega arith) (c .before .before .before .before .before .before .before .before .before .before .before .before .before .before .pre) in
+    rest-last (rest-put {more = lineFeed ∷ []} (behind-head (a .letter) 0 (length ts) (tagsOf ts) h (c .before .before .before .before .before .before .before .before .before .before .put-head .ensures)) refl (c .before .before .before .before .before .before .put-tags .ensures)) refl (c .before .before .put-byte .ensures)
+
+pub put-listing-spec : {M : Type 1} → statement M
+put-listing-spec =
+    tie.close (tie.spec put-head-requires put-tags-requires put-byte-requires same-length returns)

@@ -1,0 +1,27 @@
+use mathlib.Core.Path.{refl}
+use mathlib.Core.List.{[]}
+use native.Mathlib.Omega.{arith}
+use Rattle.desk_replies.proofs.Replies.{reply-room, head-fits, behind-head, rest-byte-room, rest-last}
+use borrow.Author.Needs.{needs}
+use Rattle.desk_replies.proofs.put_reply.Statement.{statement}
+use Rattle.desk_replies.proofs.put_reply.Tie as tie
+
+put-head-requires : tie.Need-put-head-requires
+put-head-requires c κs = let a = c .before .before .args in
+    head-fits (a .letter) (a .number) (a .value) [] (a .out .now) (reply-room (a .letter) (a .out .now) (a .number) (a .value) (omega arith) (omega arith) (c .before .before .pre))
+
+put-byte-requires : tie.Need-put-byte-requires
+put-byte-requires c κs = let a = c .before .before .before .before .before .before .args in
+    let h = reply-room (a .letter) (a .out .now) (a .number) (a .value) (omega arith) (omega arith) (c .before .before .before .before .before .before .pre) in
+    rest-byte-room (behind-head (a .letter) (a .number) (a .value) [] h (c .before .before .before .put-head .ensures)) refl
+
+same-length : tie.Need-same-length
+same-length c = search needs
+
+returns : tie.Need-returns
+returns c = let a = c .before .before .before .before .before .before .before .before .before .args in
+    let h = reply-room (a .letter) (a .out .now) (a .number) (a .value) (omega arith) (omega arith) (c .before .before .before .before .before .before .before .before .before .pre) in
+    rest-last (behind-head (a .letter) (a .number) (a .value) [] h (c .before .before .before .before .before .before .put-head .ensures)) refl (c .before .before .put-byte .ensures)
+
+pub put-reply-spec : {M : Type 1} → statement M
+put-reply-spec = tie.close (tie.spec put-head-requires put-byte-requires same-length returns)

@@ -1,0 +1,2 @@
+-- Document 01, "The desk program": how a reply is printed.
+pub mod Replies
