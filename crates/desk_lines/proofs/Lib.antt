@@ -2,3 +2,4 @@
 pub mod Good
 pub mod Answering
 pub mod Left
+pub mod Outputs

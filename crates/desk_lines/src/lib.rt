@@ -4,10 +4,11 @@ ghost use mathlib.Core.Bool.{true};
 ghost use mathlib.Core.List.{[], _∷_};
 ghost use Prim.Native.Nat.{_+_, _*_, _≤_};
 ghost use lib.ListN.{length};
-ghost use Rattle.ground.specs.Calls.{numberOf, valueOf};
+ghost use Rattle.ground.specs.Calls.{numberOf, valueOf, memory};
 ghost use Rattle.register.specs.Inner.{Ready};
 ghost use Rattle.lent.specs.Lent.{tables};
 ghost use Rattle.lent.specs.Answers.{reply};
+ghost use Rattle.catalogue.specs.Calls.{writing};
 ghost use Rattle.desk_text.specs.Lines.{goodLine};
 ghost use Rattle.desk_text.specs.Letters.{registers, inserts};
 ghost use Rattle.desk_text.specs.Letters.{writes as writesLetter};
@@ -15,6 +16,7 @@ ghost use Rattle.desk_replies.specs.Replies.{replyLine, tagsOf, headRoom, tagRo
 ghost use Rattle.desk_lists.specs.Typed.{Pairs};
 ghost use Rattle.desk_lines.specs.Desk.{sheetText, registerLine, writeLine, insertLine, asked, askLine, atDesk};
 ghost use Rattle.desk_lines.specs.Inner.{Room, Begins, Answers, setDownBy, printed, stopNumber};
+ghost use Rattle.desk_lines.specs.Outputs.{askedPlaces, askPlaces, Outputs};
 use desk_lists::Read;
 use desk_lists::read_list;
 use desk_replies::put_listing;
@@ -96,7 +98,7 @@ fn register_line(line: &[u8], reg: &mut [u8], nodes: &[u16], out: &mut [u8]) -> 
 // "W writes".
 fn write_line(reg: &[u8], nodes: &[u16], sheet: &mut [u8], out: &mut [u8]) -> usize
     requires { ⌜ headRoom + 1 + 2 * length (now sheet) + 1 ≤ length (now out) ⌝ }
-    ensures { λ r. ⌜ Put (now (out .entry)) 0 (writeLine (tables (now (reg .entry)) (now (nodes .entry))) (now (sheet .entry)) .says) r (now (out .exit)) ⌝ }
+    ensures { λ r. ⌜ Put (now (out .entry)) 0 (writeLine (tables (now (reg .entry)) (now (nodes .entry))) (now (sheet .entry)) .says) r (now (out .exit)) ⌝ ∗ ⌜ now (sheet .exit) ≡ memory (writing (tables (now (reg .entry)) (now (nodes .entry))) (now (sheet .entry))) (now (sheet .entry)) ⌝ }
 {
     let a = catalogue::write_sheet(reg, nodes, sheet);
     put_written(out, a, sheet)
@@ -128,7 +130,7 @@ fn ask(
     out: &mut [u8],
 ) -> usize
     requires { ⌜ headRoom + tagRoom * length (now places) + 1 ≤ length (now out) ⌝ }
-    ensures { λ r. ⌜ Answers (asked letter (now (places .entry)) (tables (now (reg .entry)) (now (nodes .entry))) (now (list .entry))) (now (out .entry)) r (now (out .exit)) (tables (now (reg .entry)) (now (nodes .exit))) ⌝ }
+    ensures { λ r. ⌜ Answers (asked letter (now (places .entry)) (tables (now (reg .entry)) (now (nodes .entry))) (now (list .entry))) (now (out .entry)) r (now (out .exit)) (tables (now (reg .entry)) (now (nodes .exit))) ⌝ ∗ ⌜ now (places .exit) ≡ askedPlaces letter (now (places .entry)) (tables (now (reg .entry)) (now (nodes .entry))) (now (list .entry)) ⌝ }
 {
     if letter == desk_text::FINDS {
         return put_answer(out, letter, catalogue::find(reg, nodes, list));
@@ -160,7 +162,7 @@ fn ask_line(
     out: &mut [u8],
 ) -> usize
     requires { ⌜ Pairs (now line) 2 ⌝ ∗ ⌜ goodLine (now line) ≡ true ⌝ ∗ ⌜ Ready (now reg) ⌝ ∗ ⌜ headRoom + tagRoom * length (now places) + 1 ≤ length (now out) ⌝ }
-    ensures { λ r. ⌜ Answers (askLine letter (now (line .entry)) (now (places .entry)) (tables (now (reg .entry)) (now (nodes .entry)))) (now (out .entry)) r (now (out .exit)) (tables (now (reg .entry)) (now (nodes .exit))) ⌝ }
+    ensures { λ r. ⌜ Answers (askLine letter (now (line .entry)) (now (places .entry)) (tables (now (reg .entry)) (now (nodes .entry)))) (now (out .entry)) r (now (out .exit)) (tables (now (reg .entry)) (now (nodes .exit))) ⌝ ∗ ⌜ now (places .exit) ≡ askPlaces letter (now (line .entry)) (now (places .entry)) (tables (now (reg .entry)) (now (nodes .entry))) ⌝ }
 {
     let mut list = [0u16; LIST_WORDS];
     let read = read_list(line, BEHIND_LETTER, reg, &mut list);
@@ -180,7 +182,7 @@ pub fn answer_line(
     out: &mut [u8],
 ) -> usize
     requires { ⌜ Ready (now reg) ⌝ ∗ ⌜ Room (now places) (now sheet) (now out) ⌝ }
-    ensures { λ r. ⌜ Answers (atDesk (now (line .entry)) (now (places .entry)) (now (sheet .entry)) (tables (now (reg .entry)) (now (nodes .entry)))) (now (out .entry)) r (now (out .exit)) (tables (now (reg .exit)) (now (nodes .exit))) ⌝ ∗ ⌜ Ready (now (reg .exit)) ⌝ }
+    ensures { λ r. ⌜ Answers (atDesk (now (line .entry)) (now (places .entry)) (now (sheet .entry)) (tables (now (reg .entry)) (now (nodes .entry)))) (now (out .entry)) r (now (out .exit)) (tables (now (reg .exit)) (now (nodes .exit))) ⌝ ∗ ⌜ Ready (now (reg .exit)) ⌝ ∗ ⌜ Outputs (now (line .entry)) (now (places .entry)) (now (sheet .entry)) (tables (now (reg .entry)) (now (nodes .entry))) (now (places .exit)) (now (sheet .exit)) ⌝ }
 {
     if !good_line(line) {
         return put_other(out);

@@ -35,7 +35,7 @@ same-length-5 c = search needs
 
 returns : tie.Need-returns
 returns c = let k = c .before .before .before .before .before .before .before .before .before .before .before .before .answer-line .kept in (
-  record { ready = c .before .before .before .before .before .before .before .before .before .before .before .before .answer-line .ensures .1; room = room-kept _ _ _ _ _ _ (c .before .before .before .before .before .before .before .before .before .before .before .before .before .before .before .before .before .before .before .before .before .before .before .before .pre .room) (k .1 .1 .1 .0) (k .1 .1 .1 .1 .0) (k .1 .1 .1 .1 .1 .0) },
+  record { ready = c .before .before .before .before .before .before .before .before .before .before .before .before .answer-line .ensures .1 .0; room = room-kept _ _ _ _ _ _ (c .before .before .before .before .before .before .before .before .before .before .before .before .before .before .before .before .before .before .before .before .before .before .before .before .pre .room) (k .1 .1 .1 .0) (k .1 .1 .1 .1 .0) (k .1 .1 .1 .1 .1 .0) },
   c .before .before .before .before .before .before .before .before .before .before .before .before .answer-line .ensures .0 .left ∙ left-by _ _ _ _,
 )
 

@@ -1,3 +1,4 @@
+use Rattle.desk_lines.proofs.Outputs.{other-outputs, register-outputs, insert-outputs, write-outputs, ask-outputs}
 use mathlib.Core.Path.{sym, _∙_}
 use native.Mathlib.Omega.{arith}
 use borrow.Author.Tests.{not-true, not-false}
@@ -19,7 +20,9 @@ same-length c = search needs
 
 returns : tie.Need-returns
 returns c = let a = c .before .before .before .before .before .before .before .before .before .before .before .before .args in
-    (other-answers (a .line .now) (a .places .now) (a .sheet .now) (tables (a .reg .now) (a .nodes .now)) (tables (a .reg .now) (a .nodes .now)) (sym (c .before .before .before .before .before .good-line .ensures) ∙ not-true _ (c .before .before .before .before .if1 .taken)) (c .before .before .put-other .ensures), c .before .before .before .before .before .before .before .before .before .before .before .before .pre .0)
+    let t = tables (a .reg .now) (a .nodes .now) in
+    let g = sym (c .before .before .before .before .before .good-line .ensures) ∙ not-true _ (c .before .before .before .before .if1 .taken) in
+    (other-answers (a .line .now) (a .places .now) (a .sheet .now) t t g (c .before .before .put-other .ensures), (c .before .before .before .before .before .before .before .before .before .before .before .before .pre .0, other-outputs (a .line .now) (a .places .now) (a .sheet .now) t g))
 
 shared-slice-read-letter : tie.Need-shared-slice-read-letter
 shared-slice-read-letter c = line-some _ (sym (c .before .before .good-line .ensures) ∙ not-false _ (c .before .if1 .left))
@@ -38,7 +41,10 @@ same-length-4 c = search needs
 
 returns-2 : tie.Need-returns-2
 returns-2 c = let a = c .before .before .before .before .before .before .before .before .before .before .before .before .before .before .before .before .before .before .args in
-    (register-answers (a .line .now) (a .places .now) (a .sheet .now) (tables (a .reg .now) (a .nodes .now)) _ (sym (c .before .before .before .before .before .before .before .before .before .before .before .good-line .ensures) ∙ not-false _ (c .before .before .before .before .before .before .before .before .before .before .if1 .left)) (c .before .before .before .before .before .before .before .before .if2 .taken) (c .before .before .before .before .register-line .ensures .0), c .before .before .before .before .register-line .ensures .1)
+    let t = tables (a .reg .now) (a .nodes .now) in
+    let g = sym (c .before .before .before .before .before .before .before .before .before .before .before .good-line .ensures) ∙ not-false _ (c .before .before .before .before .before .before .before .before .before .before .if1 .left) in
+    let e = c .before .before .before .before .before .before .before .before .if2 .taken in
+    (register-answers (a .line .now) (a .places .now) (a .sheet .now) t _ g e (c .before .before .before .before .register-line .ensures .0), (c .before .before .before .before .register-line .ensures .1, register-outputs (a .line .now) (a .places .now) (a .sheet .now) t g e))
 
 insert-line-requires : tie.Need-insert-line-requires
 insert-line-requires c κs = (record { good = sym (c .before .before .before .before .before .before .before .good-line .ensures) ∙ not-false _ (c .before .before .before .before .before .before .if1 .left); letter = c .before .before .before .if3 .taken }, (c .before .before .before .before .before .before .before .before .before .before .before .before .before .before .pre .0, omega (arith, c .before .before .before .before .before .before .before .before .before .before .before .before .before .before .pre .1 .written)))
@@ -54,7 +60,11 @@ same-length-7 c = search needs
 
 returns-3 : tie.Need-returns-3
 returns-3 c = let a = c .before .before .before .before .before .before .before .before .before .before .before .before .before .before .before .before .before .before .before .args in
-    (insert-answers (a .line .now) (a .places .now) (a .sheet .now) (tables (a .reg .now) (a .nodes .now)) _ (sym (c .before .before .before .before .before .before .before .before .before .before .before .before .good-line .ensures) ∙ not-false _ (c .before .before .before .before .before .before .before .before .before .before .before .if1 .left)) (c .before .before .before .before .before .before .before .before .before .if2 .left) (c .before .before .before .before .before .before .before .before .if3 .taken) (c .before .before .before .before .insert-line .ensures), c .before .before .before .before .before .before .before .before .before .before .before .before .before .before .before .before .before .before .before .pre .0)
+    let t = tables (a .reg .now) (a .nodes .now) in
+    let g = sym (c .before .before .before .before .before .before .before .before .before .before .before .before .good-line .ensures) ∙ not-false _ (c .before .before .before .before .before .before .before .before .before .before .before .if1 .left) in
+    let n1 = c .before .before .before .before .before .before .before .before .before .if2 .left in
+    let e = c .before .before .before .before .before .before .before .before .if3 .taken in
+    (insert-answers (a .line .now) (a .places .now) (a .sheet .now) t _ g n1 e (c .before .before .before .before .insert-line .ensures), (c .before .before .before .before .before .before .before .before .before .before .before .before .before .before .before .before .before .before .before .pre .0, insert-outputs (a .line .now) (a .places .now) (a .sheet .now) t g n1 e))
 
 write-line-requires : tie.Need-write-line-requires
 write-line-requires c κs = search needs
@@ -73,7 +83,12 @@ same-length-11 c = search needs
 
 returns-4 : tie.Need-returns-4
 returns-4 c = let a = c .before .before .before .before .before .before .before .before .before .before .before .before .before .before .before .before .before .before .before .before .before .args in
-    (write-answers (a .line .now) (a .places .now) (a .sheet .now) (tables (a .reg .now) (a .nodes .now)) (tables (a .reg .now) (a .nodes .now)) (sym (c .before .before .before .before .before .before .before .before .before .before .before .before .before .before .good-line .ensures) ∙ not-false _ (c .before .before .before .before .before .before .before .before .before .before .before .before .before .if1 .left)) (c .before .before .before .before .before .before .before .before .before .before .before .if2 .left) (c .before .before .before .before .before .before .before .before .before .before .if3 .left) (c .before .before .before .before .before .before .before .before .before .if4 .taken) (c .before .before .before .before .write-line .ensures), c .before .before .before .before .before .before .before .before .before .before .before .before .before .before .before .before .before .before .before .before .before .pre .0)
+    let t = tables (a .reg .now) (a .nodes .now) in
+    let g = sym (c .before .before .before .before .before .before .before .before .before .before .before .before .before .before .good-line .ensures) ∙ not-false _ (c .before .before .before .before .before .before .before .before .before .before .before .before .before .if1 .left) in
+    let n1 = c .before .before .before .before .before .before .before .before .before .before .before .if2 .left in
+    let n2 = c .before .before .before .before .before .before .before .before .before .before .if3 .left in
+    let e = c .before .before .before .before .before .before .before .before .before .if4 .taken in
+    (write-answers (a .line .now) (a .places .now) (a .sheet .now) t t g n1 n2 e (c .before .before .before .before .write-line .ensures .0), (c .before .before .before .before .before .before .before .before .before .before .before .before .before .before .before .before .before .before .before .before .before .pre .0, write-outputs (a .line .now) (a .places .now) (a .sheet .now) t g n1 n2 _ e (c .before .before .before .before .write-line .ensures .1)))
 
 ask-line-requires : tie.Need-ask-line-requires
 ask-line-requires c κs = let g = sym (c .before .before .before .before .before .before .before .before .before .good-line .ensures) ∙ not-false _ (c .before .before .before .before .before .before .before .before .if1 .left) in
@@ -93,7 +108,12 @@ same-length-15 c = search needs
 
 returns-5 : tie.Need-returns-5
 returns-5 c = let a = c .before .before .before .before .before .before .before .before .before .before .before .before .before .before .before .before .before .before .before .before .before .before .before .args in
-    (ask-answers (a .line .now) (a .places .now) (a .sheet .now) (tables (a .reg .now) (a .nodes .now)) _ (sym (c .before .before .before .before .before .before .before .before .before .before .before .before .before .before .before .before .good-line .ensures) ∙ not-false _ (c .before .before .before .before .before .before .before .before .before .before .before .before .before .before .before .if1 .left)) (c .before .before .before .before .before .before .before .before .before .before .before .before .before .if2 .left) (c .before .before .before .before .before .before .before .before .before .before .before .before .if3 .left) (c .before .before .before .before .before .before .before .before .before .before .before .if4 .left) (c .before .before .before .before .before .before .ask-line .ensures), c .before .before .before .before .before .before .before .before .before .before .before .before .before .before .before .before .before .before .before .before .before .before .before .pre .0)
+    let t = tables (a .reg .now) (a .nodes .now) in
+    let g = sym (c .before .before .before .before .before .before .before .before .before .before .before .before .before .before .before .before .good-line .ensures) ∙ not-false _ (c .before .before .before .before .before .before .before .before .before .before .before .before .before .before .before .if1 .left) in
+    let n1 = c .before .before .before .before .before .before .before .before .before .before .before .before .before .if2 .left in
+    let n2 = c .before .before .before .before .before .before .before .before .before .before .before .before .if3 .left in
+    let n3 = c .before .before .before .before .before .before .before .before .before .before .before .if4 .left in
+    (ask-answers (a .line .now) (a .places .now) (a .sheet .now) t _ g n1 n2 n3 (c .before .before .before .before .before .before .ask-line .ensures .0), (c .before .before .before .before .before .before .before .before .before .before .before .before .before .before .before .before .before .before .before .before .before .before .before .pre .0, ask-outputs (a .line .now) (a .places .now) (a .sheet .now) t g n1 n2 _ n3 (c .before .before .before .before .before .before .ask-line .ensures .1)))
 
 pub answer-line-spec : {M : Type 1} → statement M
 answer-line-spec =

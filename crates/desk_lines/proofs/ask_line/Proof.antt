@@ -1,3 +1,4 @@
+use Rattle.desk_lines.proofs.Outputs.{ask-lists, stop-leaves}
 use mathlib.Core.Path.{sym}
 use lib.Seq.{length-take-le}
 use Rattle.lent.specs.Lent.{tables}
@@ -32,8 +33,13 @@ same-length c = search needs
 returns : tie.Need-returns
 returns c = let a = c .before .before .before .before .before .before .before .before .before .before .before .before .before .before .before .args in
     let l = a .line .now in
-    ask-stopped l (tables (a .reg .now) (a .nodes .now)) (c .before .before .before .before .before .before .before .before .read-list .result) _ (fieldsFrom l 2) (c .before .before .before .before .before .before .before .before .read-list .ensures .says) (a .letter) (a .places .now) (behind-letter l (c .before .before .before .before .before .before .before .before .before .before .before .before .before .before .before .pre .1 .0))
-    _ (c .before .before .before .stop-number .result) (c .before .before .before .before .before .enum-told .given .1) (c .before .before .before .stop-number .ensures) (c .before .before .put-reply .ensures)
+    let t = tables (a .reg .now) (a .nodes .now) in
+    let s = c .before .before .before .before .before .before .before .before .read-list .ensures .says in
+    let b = behind-letter l (c .before .before .before .before .before .before .before .before .before .before .before .before .before .before .before .pre .1 .0) in
+    let e = c .before .before .before .before .before .enum-told .given .1 in (
+      ask-stopped l t (c .before .before .before .before .before .before .before .before .read-list .result) _ (fieldsFrom l 2) s (a .letter) (a .places .now) b _ (c .before .before .before .stop-number .result) e (c .before .before .before .stop-number .ensures) (c .before .before .put-reply .ensures),
+      stop-leaves (a .letter) l (a .places .now) t (c .before .before .before .before .before .before .before .before .read-list .result) _ (fieldsFrom l 2) s b _ e,
+    )
 
 array-share-prefix-list : tie.Need-array-share-prefix-list
 array-share-prefix-list c = words-inside _ _ _ (c .before .read .given .1) (c .before .before .before .before .read-list .ensures .inside)
@@ -56,8 +62,13 @@ same-length-4 c = search needs
 returns-2 : tie.Need-returns-2
 returns-2 c = let a = c .before .before .before .before .before .before .before .before .before .before .before .before .before .before .before .before .before .before .before .before .before .before .args in
     let l = a .line .now in
-    ask-typed l (tables (a .reg .now) (a .nodes .now)) (c .before .before .before .before .before .before .before .before .before .before .before .before .before .before .before .read-list .result) _ (fieldsFrom l 2) (c .before .before .before .before .before .before .before .before .before .before .before .before .before .before .before .read-list .ensures .says) (a .letter) (a .places .now) (behind-letter l (c .before .before .before .before .before .before .before .before .before .before .before .before .before .before .before .before .before .before .before .before .before .before .pre .1 .0))
-    _ _ (c .before .before .before .before .before .before .before .before .before .before .before .before .read .given .1) (c .before .before .before .before .before .before .ask .ensures)
+    let t = tables (a .reg .now) (a .nodes .now) in
+    let s = c .before .before .before .before .before .before .before .before .before .before .before .before .before .before .before .read-list .ensures .says in
+    let b = behind-letter l (c .before .before .before .before .before .before .before .before .before .before .before .before .before .before .before .before .before .before .before .before .before .before .pre .1 .0) in
+    let e = c .before .before .before .before .before .before .before .before .before .before .before .before .read .given .1 in (
+      ask-typed l t (c .before .before .before .before .before .before .before .before .before .before .before .before .before .before .before .read-list .result) _ (fieldsFrom l 2) s (a .letter) (a .places .now) b _ _ e (c .before .before .before .before .before .before .ask .ensures .0),
+      ask-lists (a .letter) l (a .places .now) t (c .before .before .before .before .before .before .before .before .before .before .before .before .before .before .before .read-list .result) _ (fieldsFrom l 2) s b _ _ e (c .before .before .before .before .before .before .ask .ensures .1),
+    )
 
 pub ask-line-spec : {M : Type 1} → statement M
 ask-line-spec =

@@ -23,8 +23,10 @@ same-length-2 c = search needs
 
 returns : tie.Need-returns
 unfolding writeLine
-returns c = let a = c .before .before .before .before .before .before .before .before .before .before .before .before .before .args in
-    shown-put writes sheetText (writing (tables (a .reg .now) (a .nodes .now)) (a .sheet .now)) (a .sheet .now) _ _ (c .before .before .before .before .before .before .before .write-sheet .ensures) (c .before .before .put-written .ensures)
+returns c = let a = c .before .before .before .before .before .before .before .before .before .before .before .before .before .args in (
+  shown-put writes sheetText (writing (tables (a .reg .now) (a .nodes .now)) (a .sheet .now)) (a .sheet .now) _ _ (c .before .before .before .before .before .before .before .write-sheet .ensures) (c .before .before .put-written .ensures),
+  c .before .before .before .before .before .before .before .write-sheet .ensures .lent,
+)
 
 pub write-line-spec : {M : Type 1} → statement M
 write-line-spec =

@@ -1,0 +1,57 @@
+-- Document 01, "The desk program": what a line leaves in the outputs that are lent to it. "What lies behind the answer keeps its contents."
+use mathlib.Core.Path.{_≡_}
+use mathlib.Core.Bool.{cond}
+use mathlib.Core.List.{List}
+use Prim.Native.Nat.{ℕ}
+use lib.ListN.{getD}
+use lib.Dec.{eqb}
+use Rattle.ground.specs.Calls.{memory}
+use Rattle.questions.specs.Questions.{isWithin, isContaining}
+use Rattle.lent.specs.Lent.{Tables}
+use Rattle.catalogue.specs.Calls.{allKits, writing}
+use Rattle.desk_text.specs.Letters as letter
+use Rattle.desk_text.specs.Lines.{goodLine}
+use Rattle.desk_lists.specs.Typed.{Typed, typed, stopped, lookedUp}
+use Rattle.desk_lines.specs.Desk.{typedFields}
+
+-- the places o after a question on a list: "b and s list all"
+unfoldable pub askedPlaces : ℕ → List ℕ → Tables → List ℕ → List ℕ
+askedPlaces x o T l =
+    cond (eqb x letter.finds) o
+    (cond (eqb x letter.deletes) o
+    (cond (eqb x letter.anyWithin) o
+    (cond (eqb x letter.anyContaining) o
+    (cond (eqb x letter.allWithin) (memory (allKits isWithin l T o) o)
+    (memory (allKits isContaining l T o) o)))))
+
+-- a lookup that was refused leaves them
+unfoldable pub typedPlaces : ℕ → List ℕ → Tables → Typed → List ℕ
+typedPlaces x o T (typed l) = askedPlaces x o T l
+typedPlaces x o T (stopped n v) = o
+
+abbrev pub askPlaces : ℕ → List ℕ → List ℕ → Tables → List ℕ
+askPlaces x l o T = typedPlaces x o T (lookedUp (T .register) (typedFields l))
+
+-- the places after a line
+unfoldable pub placesAfter : List ℕ → List ℕ → Tables → List ℕ
+placesAfter l o T =
+    cond (goodLine l)
+    (cond (eqb (getD l 0 0) letter.registers) o
+    (cond (eqb (getD l 0 0) letter.inserts) o
+    (cond (eqb (getD l 0 0) letter.writes) o
+    (askPlaces (getD l 0 0) l o T))))
+    o
+
+-- the sheet bytes s after a line: "W writes"
+unfoldable pub sheetAfter : List ℕ → List ℕ → Tables → List ℕ
+sheetAfter l s T =
+    cond (goodLine l)
+    (cond (eqb (getD l 0 0) letter.registers) s
+    (cond (eqb (getD l 0 0) letter.inserts) s
+    (cond (eqb (getD l 0 0) letter.writes) (memory (writing T s) s) s)))
+    s
+
+-- the outputs after a line, of those before it
+pub record Outputs (l o s : List ℕ) (T : Tables) (o′ s′ : List ℕ) : Type 0 where
+  pub places : o′ ≡ placesAfter l o T
+  pub sheet : s′ ≡ sheetAfter l s T
