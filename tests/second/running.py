@@ -4,9 +4,14 @@ Programs are built for x86-64. The kit's folder is two above the page that `rt d
 it, on/PROCESSOR/toolchain has the loader and, on another processor, qemu-x86_64.
 """
 
+import fcntl
 import pathlib
 import platform
+import struct
 import subprocess
+import termios
+import threading
+import time
 
 BUILT_MARK = b"\x7fELF"
 LONGEST_RUN = 600
@@ -57,3 +62,40 @@ def output_of(command, data):
     if run.returncode != 0:
         return run.stdout, "ended with status %d" % run.returncode
     return run.stdout, ""
+
+
+def output_in_pieces(command, data, size):
+    """What the program writes for this input, handed to it in pieces of so many bytes, each once
+    the one before it was read; and how it ended ("" when well)."""
+    with subprocess.Popen(command, bufsize=0, stdin=subprocess.PIPE, stdout=subprocess.PIPE) as run:
+        came = []
+        reader = threading.Thread(target=lambda: came.append(run.stdout.read()))
+        reader.start()
+        for at in range(0, len(data), size):
+            run.stdin.write(data[at:at + size])
+            wait_until_read(run)
+        run.stdin.close()
+        reader.join()
+        ended = run.wait()
+    return came[0], "" if ended == 0 else "ended with status %d" % ended
+
+
+def wait_until_read(run):
+    """Waits until the program has read all that was written to it, or has ended."""
+    while run.poll() is None:
+        held = fcntl.ioctl(run.stdin.fileno(), termios.FIONREAD, struct.pack("i", 0))
+        if struct.unpack("i", held)[0] == 0:
+            return
+        time.sleep(0)
+
+
+def conversation(command, lines):
+    """The reply to each line, each line written once the reply to the one before it came."""
+    with subprocess.Popen(command, bufsize=0, stdin=subprocess.PIPE, stdout=subprocess.PIPE) as run:
+        replies = []
+        for line in lines:
+            run.stdin.write(line + b"\n")
+            replies.append(run.stdout.readline())
+        run.stdin.close()
+        replies.append(run.stdout.read())
+    return b"".join(replies)
