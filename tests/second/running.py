@@ -7,6 +7,7 @@ it, on/PROCESSOR/toolchain has the loader and, on another processor, qemu-x86_64
 import pathlib
 import platform
 import subprocess
+import threading
 
 BUILT_MARK = b"\x7fELF"
 LONGEST_RUN = 600
@@ -57,3 +58,42 @@ def output_of(command, data):
     if run.returncode != 0:
         return run.stdout, "ended with status %d" % run.returncode
     return run.stdout, ""
+
+
+class Conversation:
+    """A running program that is asked, answers, and is asked again."""
+
+    def __init__(self, command):
+        try:
+            self.process = subprocess.Popen(command, stdin=subprocess.PIPE, stdout=subprocess.PIPE)
+        except OSError as fault:
+            raise CannotRun(str(fault)) from fault
+        self.limit = threading.Timer(LONGEST_RUN, self.process.kill)
+        self.limit.daemon = True
+        self.limit.start()
+
+    def send(self, data):
+        """Sends these bytes; a program that has ended takes none, and then gives none."""
+        try:
+            self.process.stdin.write(data)
+            self.process.stdin.flush()
+        except BrokenPipeError:
+            pass
+
+    def take(self, count):
+        """So many bytes of what the program writes, fewer only where it has ended."""
+        return self.process.stdout.read(count)
+
+    def end(self):
+        """Ends the input: how the program ended ("" when well, with nothing more written)."""
+        try:
+            self.process.stdin.close()
+        except BrokenPipeError:
+            pass
+        behind = self.process.stdout.read()
+        self.process.stdout.close()
+        status = self.process.wait()
+        self.limit.cancel()
+        if status != 0:
+            return "ended with status %d" % status
+        return "wrote %d bytes behind its last answer" % len(behind) if behind else ""
