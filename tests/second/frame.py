@@ -89,6 +89,11 @@ def pack_block(name, elements):
     return count + bytes(elements)
 
 
+def element_bytes(name):
+    """How many bytes an element of this block takes."""
+    return 2 if name in WORD_BLOCKS else 1
+
+
 def unpack_block(name, data, offset):
     """The block at this offset, and the offset behind it."""
     if offset + COUNT.size > len(data):
@@ -97,7 +102,7 @@ def unpack_block(name, data, offset):
     offset += COUNT.size
     if count > ROOM[name]:
         raise Broken("block %s of %d elements is larger than its room" % (name, count))
-    size = count * (2 if name in WORD_BLOCKS else 1)
+    size = count * element_bytes(name)
     if offset + size > len(data):
         raise Broken("cut short in block " + name)
     if name in WORD_BLOCKS:
@@ -129,3 +134,18 @@ def unpack_answer(data, offset):
     for name in ANSWER_BLOCKS:
         blocks[name], offset = unpack_block(name, data, offset)
     return Answer(number, value, blocks, second, third), offset
+
+
+def answer_bytes(take):
+    """The bytes of the next answer, as far as they come and can be told apart.
+
+    `take` gives so many bytes, and fewer only where there are no more.
+    """
+    data = take(ANSWER_HEAD.size)
+    for name in ANSWER_BLOCKS:
+        count = take(COUNT.size)
+        data += count
+        if len(count) < COUNT.size or COUNT.unpack(count)[0] > ROOM[name]:
+            break
+        data += take(COUNT.unpack(count)[0] * element_bytes(name))
+    return data

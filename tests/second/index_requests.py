@@ -5,11 +5,12 @@ import functools
 from . import index, nodes
 from .chance import Chance
 from .frame import ROOM, Request
-from .kits import MOST_QUANTITY, MOST_UNITS, beginnings, lines_of, units, words_of
+from .kits import (
+    MOST_QUANTITY, MOST_UNITS, beginnings, lines_of, lines_of_words, units, words_of)
 from .nodes import FREE, MOST_NODES, NODE_WORDS, ROOT, Node
 from .register import MOST_SLOTS, filled, numbers_of
 from .register_requests import damaged_register, many_numbers
-from .short_cases import CONTAINING, DELETE, SHORT_CASES, WITHIN
+from .short_cases import CONTAINING, DELETE, PRINTED_STEPS, SHORT_CASES, WITHIN
 
 # The calls that are lent both tables and look at them, and those that take a list.
 TABLE_LETTERS = "kfdwcWCs"
@@ -231,11 +232,6 @@ def list_limits():
                                                     sum(listed[1::2])))
 
 
-def lines_of_words(words):
-    """A good list's lines."""
-    return list(zip(words[0::2], words[1::2]))
-
-
 def insertions():
     """9 before 10, 10 before 12, chains at their start, middle and end, and beginnings."""
     four = parts_register(4)
@@ -302,13 +298,12 @@ CASE_LETTERS = {WITHIN: "wW", CONTAINING: "cC", DELETE: "d"}
 
 def short_cases():
     """Document 01's table of short cases, and the wrong turns that the trade has seen."""
-    three = parts_register(3)
-    for held, question, row, _ in SHORT_CASES:
+    five = parts_register(5)
+    for held, question, row, _ in SHORT_CASES + PRINTED_STEPS:
         words = table(6, *((kit, tag) for tag, kit in enumerate(held, start=11)))
         for letter in CASE_LETTERS[question]:
-            yield Request(letter, R=three, N=words, L=words_of(lines_of(row)),
+            yield Request(letter, R=five, N=words, L=words_of(lines_of(row)),
                           P=some_output(letter, 3), note="%s %s of %s" % (question, row, held))
-    five = parts_register(5)
     held = [((1, 2, 5), 31), ((1, 3), 32), ((2, 3), 33), ((2, 5), 34), ((3,), 35), ((3, 3), 36),
             ((1, 1, 4), 37), ((4, 5), 38), ((1, 5, 5), 39), ((), 30)]
     lists = [[], [1, 1], [2, 1], [3, 1], [3, 2], [4, 1], [5, 1], [5, 2], [1, 1, 5, 1],

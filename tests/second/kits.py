@@ -54,6 +54,11 @@ def words_of(lines):
     return [word for line in lines for word in line]
 
 
+def lines_of_words(words):
+    """A good list's lines."""
+    return list(zip(words[0::2], words[1::2]))
+
+
 def included(need, have):
     """Multiset inclusion of quantities: for each part no more than the other's."""
     return all(quantity <= have[place] for place, quantity in need.items())

@@ -2,7 +2,8 @@
 
 from . import index_requests, register_requests, sheet_requests
 from .chance import Chance
-from .frame import COUNT, REQUEST_BLOCKS, REQUEST_HEAD, ROOM, WORD_BLOCKS, Request
+from .frame import (
+    COUNT, REQUEST_BLOCKS, REQUEST_HEAD, ROOM, WORD_BLOCKS, Request, element_bytes)
 
 # Who makes the requests of each letter by chance. Each maker's fixed requests are its limits
 # (the document's own, each small), its sweeps (many values of one thing) and large ones.
@@ -73,13 +74,18 @@ def by_chance(letters, seed, count):
     for _ in range(count):
         letter = chance.pick(drawn)
         request = makers[letter].by_chance(letter)
-        for name in REQUEST_BLOCKS:
-            if name not in USES[letter] and not request.blocks[name] and chance.one_in(2):
-                request.blocks[name] = some_block(chance, name)
-        if letter not in USES_A:
-            request.a = chance.some_words(1)[0]
-        request.b = chance.some_words(1)[0]
+        fill_unused(chance, request)
         yield request
+
+
+def fill_unused(chance, request):
+    """Puts anything into what the call does not use: blocks still empty, A and B."""
+    for name in REQUEST_BLOCKS:
+        if name not in USES[request.letter] and not request.blocks[name] and chance.one_in(2):
+            request.blocks[name] = some_block(chance, name)
+    if request.letter not in USES_A:
+        request.a = chance.some_words(1)[0]
+    request.b = chance.some_words(1)[0]
 
 
 def some_block(chance, name):
@@ -108,7 +114,7 @@ def oversize(letter, name, count):
     for block in REQUEST_BLOCKS:
         parts.append(COUNT.pack(count if block == name else 0))
         if block == name:
-            parts.append(bytes(min(count, MOST_SENT) * (2 if name in WORD_BLOCKS else 1)))
+            parts.append(bytes(min(count, MOST_SENT) * element_bytes(name)))
     return b"".join(parts)
 
 

@@ -89,13 +89,55 @@ def wait_until_read(run):
         time.sleep(0)
 
 
+class Conversation:
+    """A running program that is asked, answers, and is asked again."""
+
+    def __init__(self, command):
+        try:
+            self.process = subprocess.Popen(command, stdin=subprocess.PIPE, stdout=subprocess.PIPE)
+        except OSError as fault:
+            raise CannotRun(str(fault)) from fault
+        self.limit = threading.Timer(LONGEST_RUN, self.process.kill)
+        self.limit.daemon = True
+        self.limit.start()
+
+    def send(self, data):
+        """Sends these bytes; a program that has ended takes none, and then gives none."""
+        try:
+            self.process.stdin.write(data)
+            self.process.stdin.flush()
+        except BrokenPipeError:
+            pass
+
+    def take(self, count):
+        """So many bytes of what the program writes, fewer only where it has ended."""
+        return self.process.stdout.read(count)
+
+    def take_line(self):
+        """The next line of what the program writes."""
+        return self.process.stdout.readline()
+
+    def end(self):
+        """Ends the input: how the program ended ("" when well, with nothing more written)."""
+        try:
+            self.process.stdin.close()
+        except BrokenPipeError:
+            pass
+        behind = self.process.stdout.read()
+        self.process.stdout.close()
+        status = self.process.wait()
+        self.limit.cancel()
+        if status != 0:
+            return "ended with status %d" % status
+        return "wrote %d bytes behind its last answer" % len(behind) if behind else ""
+
+
 def conversation(command, lines):
-    """The reply to each line, each line written once the reply to the one before it came."""
-    with subprocess.Popen(command, bufsize=0, stdin=subprocess.PIPE, stdout=subprocess.PIPE) as run:
-        replies = []
-        for line in lines:
-            run.stdin.write(line + b"\n")
-            replies.append(run.stdout.readline())
-        run.stdin.close()
-        replies.append(run.stdout.read())
-    return b"".join(replies)
+    """The reply to each line, each line written once the reply to the one before it came; and how
+    the program ended ("" when well, with nothing more written)."""
+    talk = Conversation(command)
+    replies = []
+    for line in lines:
+        talk.send(line + b"\n")
+        replies.append(talk.take_line())
+    return b"".join(replies), talk.end()

@@ -43,6 +43,7 @@ def sheet_of(part_numbers, records, parts=None, kits=None, mark=b"KIT", version=
 
 THREE = [b"00741", b"741", b"4016"]
 FIVE = [b"1", b"2", b"3", b"4", b"5"]
+SMALL_SHEETS = [PRINTED_SHEET, sheet_of([b"A", b"B"], [record(3), record(258, (1, 2), (2, 1))])]
 THREE_KITS = [record(9, (1, 1)), record(8, (1, 2), (3, 1)), record(7, (2, 3))]
 
 
@@ -52,6 +53,8 @@ def limits():
     yield from torn_sheets()
     yield from item_faults()
     yield from record_faults()
+    yield from many_lines(64, 64)
+    yield from many_lines(65, 64, 65)
     yield from room_for_reading()
     yield from old_contents()
 
@@ -169,6 +172,16 @@ def record_faults():
     yield reading(sheet_of([], [record(1)]), note="the empty kit without parts")
 
 
+def many_lines(parts, *line_counts):
+    """Records of so many lines of one unit each beside so many parts, whole and cut short."""
+    for lines in line_counts:
+        data = sheet_of(many_numbers(parts), [
+            record(9, *((place, 1) for place in range(1, lines + 1)))])
+        note = "%d lines beside %d parts" % (lines, parts)
+        yield reading(data, parts, 65, note)
+        yield reading(data[:-1], parts, 65, note + ", the last one cut short")
+
+
 def room_for_reading():
     """Slots and nodes exactly enough and one too few; 1 before 13 before 12."""
     data = sheet_of(THREE, THREE_KITS)
@@ -200,7 +213,7 @@ def old_contents():
 
 
 def sweeps():
-    """Every byte of a sheet set to several values, left out, or doubled."""
+    """Every byte of a sheet set to several values, left out, or doubled; of small ones, to all."""
     data = sheet_of([b"00741", b"741", b"4016", b"A" * 24], [
         record(3), record(9, (1, 1)), record(8, (1, 2), (3, 1)), record(256, (1, 2), (4, 2)),
         record(7, (2, 3)), record(65535, (3, 1))])
@@ -211,6 +224,11 @@ def sweeps():
         yield reading(data[:at] + data[at + 1:], note="byte %d left out" % at)
         yield reading(data[:at] + data[at:at + 1] + data[at:], note="byte %d doubled" % at)
         yield reading(data[:at], note="cut to %d bytes" % at)
+    for small in SMALL_SHEETS:
+        for at in range(len(small)):
+            for value in range(256):
+                yield reading(small[:at] + bytes([value]) + small[at + 1:], 3, 6,
+                              note="byte %d of %d set to each value" % (at, len(small)))
 
 
 @functools.lru_cache(maxsize=None)
@@ -263,6 +281,11 @@ def large():
         for slots, node_count in ((255, 4096), (254, 4096), (255, 3826), (255, 3825)):
             yield reading(data, slots, node_count, "a long sheet, " + kind)
         yield reading(data[:-1], 255, 4096, "a long sheet, torn, " + kind)
+    yield from many_lines(MOST_SLOTS, 64, 65, 255)
+    for parts in (MOST_SLOTS - 1, MOST_SLOTS, MOST_SLOTS + 1):
+        for slots in (MOST_SLOTS - 1, MOST_SLOTS):
+            yield reading(sheet_of(many_numbers(parts), [record(1, (254, 1))]), slots, 2,
+                          "%d parts into %d slots" % (parts, slots))
     for length in (MOST_NODES * NODE_WORDS + 1, (MOST_NODES + 1) * NODE_WORDS):
         yield Request("r", R=bytes(32), N=[0] * length, I=sheet_of([], []),
                       note="%d words" % length)

@@ -78,7 +78,7 @@ module _ (R N : List ℕ) where
   write-refused o r is e = promise-front (lentBoth (tables R N)) _ _ _ o r 0 is e
 
   pub write-done : (o w : List ℕ) (r s q : Reply) → r ≡ decide (lentBoth (tables R N)) 0 → isRefused r ≡ false → s ≡ q → Promise (sheet.writing (contents (tables R N)) o) o q w → Promise (writing (tables R N) o) o s w
-  unfolding writing sheet.writing setDown
+  unfolding writing sheet.writing
   write-done o w r s q is e same p = rw same (set-down-behind (lentBoth (tables R N)) 0 (encode (contents (tables R N))) o (whole-passes r _ 0 0 is e) p)
 
   module _ (l : List ℕ) where

@@ -7,7 +7,7 @@ use lib.ListN.{length}
 use lib.Dec.{ltb}
 use Rattle.ground.specs.Lists.{isZero}
 use Rattle.ground.specs.Laid.{zeroed}
-use Rattle.ground.specs.Calls.{given, Plan, plan, setDown}
+use Rattle.ground.specs.Calls.{given, Plan, plan, Promise, setDown}
 use Rattle.register.specs.Register.{slotCount}
 use Rattle.register.specs.Calls.{registering, lookingUp, showing}
 use Rattle.kits.specs.Kits.{mostUnits, units, listFaults}
@@ -21,6 +21,8 @@ use Rattle.sheet.specs.Sheet.{Contents, contentsOf, encode}
 use Rattle.sheet.specs.Reading.{decode, said}
 use Rattle.sheet.specs.Calls.{sheetRefusals}
 use Rattle.filling.specs.Filling.{filling}
+use Rattle.lent.specs.declared.Answer.{Answer}
+use Rattle.lent.specs.Answers.{reply}
 use Rattle.lent.specs.Lent.{Tables, tables, partCount, lengths, lentBoth, lentList}
 
 -- what the catalogue has
@@ -71,6 +73,14 @@ reading s T =
     plan (lengths T ++ sheetRefusals s (slotCount (T .register)) (size (T .nodes)))
     (length (said (decode s) .kits))
     (filling (said (decode s)) T)
+
+-- What a call that may write the tables promises of its answer and of the tables R′ and N′ afterwards
+abbrev pub Leaves : (Tables → Plan Tables) → List ℕ → List ℕ → Answer → List ℕ → List ℕ → Type 0
+Leaves call R N a R′ N′ = Promise (call (tables R N)) (tables R N) (reply a) (tables R′ N′)
+
+-- what a call that may write an output o promises of its answer and of the output p afterwards
+abbrev pub Sets : (List ℕ → Plan (List ℕ)) → List ℕ → Answer → List ℕ → Type 0
+Sets call o a p = Promise (call o) o (reply a) p
 
 -- A call, with what is lent to it besides the tables
 pub data Call : Type 0 where

@@ -1,14 +1,14 @@
 // Document 01, "Calls and what they answer": the calls that are lent both tables. None has a `requires`: each checks all that it is lent, in the
 // paper's order, and refuses. The work behind them is done by the crates below, on tables known to be sound.
 ghost use mathlib.Core.Path.{_≡_};
-ghost use Rattle.ground.specs.Calls.{Promise, answer};
+ghost use Rattle.ground.specs.Calls.{answer};
 ghost use Rattle.questions.specs.Questions.{isWithin, isContaining, listedReply};
 ghost use Rattle.index.specs.Index.{foundReply, insertedReply, deletedReply};
 ghost use Rattle.writing.specs.Written.{writtenReply};
 ghost use Rattle.filling.specs.Read.{readReply};
 ghost use Rattle.lent.specs.Lent.{tables};
 ghost use Rattle.lent.specs.Answers.{reply};
-ghost use Rattle.catalogue.specs.Calls.{emptying, inserting, finding, deleting, anyKit, allKits, writing, reading};
+ghost use Rattle.catalogue.specs.Calls.{emptying, inserting, finding, deleting, anyKit, allKits, writing, reading, Leaves, Sets};
 use filling::ReadSheet;
 use ground::wide16;
 use index::Deleted;
@@ -25,7 +25,7 @@ use writing::Written;
 
 // Empties both tables.
 pub fn empty(reg: &mut [u8], nodes: &mut [u16]) -> Answer
-    ensures { λ r. ⌜ Promise (emptying (tables (now (reg .entry)) (now (nodes .entry)))) (tables (now (reg .entry)) (now (nodes .entry))) (reply r) (tables (now (reg .exit)) (now (nodes .exit))) ⌝ }
+    ensures { λ r. ⌜ Leaves emptying (now (reg .entry)) (now (nodes .entry)) r (now (reg .exit)) (now (nodes .exit)) ⌝ }
 {
     let sized = check_lengths(reg, nodes);
     if refused(sized) {
@@ -49,7 +49,7 @@ fn inserted_answer(i: Inserted) -> Answer
 
 // Inserts a list with a tag: the nodes newly taken.
 pub fn insert(reg: &[u8], nodes: &mut [u16], list: &[u16], tag: u16) -> Answer
-    ensures { λ r. ⌜ Promise (inserting (now (list .entry)) tag (tables (now (reg .entry)) (now (nodes .entry)))) (tables (now (reg .entry)) (now (nodes .entry))) (reply r) (tables (now (reg .entry)) (now (nodes .exit))) ⌝ }
+    ensures { λ r. ⌜ Leaves (inserting (now (list .entry)) tag) (now (reg .entry)) (now (nodes .entry)) r (now (reg .entry)) (now (nodes .exit)) ⌝ }
 {
     let lent = check_tables(reg, nodes);
     if refused(lent) {
@@ -102,7 +102,7 @@ fn deleted_answer(d: Deleted) -> Answer
 
 // Deletes a list: its tag.
 pub fn delete(reg: &[u8], nodes: &mut [u16], list: &[u16]) -> Answer
-    ensures { λ r. ⌜ Promise (deleting (now (list .entry)) (tables (now (reg .entry)) (now (nodes .entry)))) (tables (now (reg .entry)) (now (nodes .entry))) (reply r) (tables (now (reg .entry)) (now (nodes .exit))) ⌝ }
+    ensures { λ r. ⌜ Leaves (deleting (now (list .entry))) (now (reg .entry)) (now (nodes .entry)) r (now (reg .entry)) (now (nodes .exit)) ⌝ }
 {
     let lent = check_lent(reg, nodes, list);
     if refused(lent) {
@@ -147,7 +147,7 @@ fn listed_answer(l: Listed) -> Answer
 
 // All kits within the bin: their tags in listing order at the start of the output.
 pub fn all_within(reg: &[u8], nodes: &[u16], bin: &[u16], out: &mut [u16]) -> Answer
-    ensures { λ r. ⌜ Promise (allKits isWithin (now (bin .entry)) (tables (now (reg .entry)) (now (nodes .entry))) (now (out .entry))) (now (out .entry)) (reply r) (now (out .exit)) ⌝ }
+    ensures { λ r. ⌜ Sets (allKits isWithin (now (bin .entry)) (tables (now (reg .entry)) (now (nodes .entry)))) (now (out .entry)) r (now (out .exit)) ⌝ }
 {
     let lent = check_lent(reg, nodes, bin);
     if refused(lent) {
@@ -158,7 +158,7 @@ pub fn all_within(reg: &[u8], nodes: &[u16], bin: &[u16], out: &mut [u16]) -> An
 
 // All kits containing the list: their tags in listing order at the start of the output.
 pub fn all_containing(reg: &[u8], nodes: &[u16], list: &[u16], out: &mut [u16]) -> Answer
-    ensures { λ r. ⌜ Promise (allKits isContaining (now (list .entry)) (tables (now (reg .entry)) (now (nodes .entry))) (now (out .entry))) (now (out .entry)) (reply r) (now (out .exit)) ⌝ }
+    ensures { λ r. ⌜ Sets (allKits isContaining (now (list .entry)) (tables (now (reg .entry)) (now (nodes .entry)))) (now (out .entry)) r (now (out .exit)) ⌝ }
 {
     let lent = check_lent(reg, nodes, list);
     if refused(lent) {
@@ -178,7 +178,7 @@ fn written_answer(w: Written) -> Answer
 
 // Writes the sheet at the start of the output: the bytes written.
 pub fn write_sheet(reg: &[u8], nodes: &[u16], out: &mut [u8]) -> Answer
-    ensures { λ r. ⌜ Promise (writing (tables (now (reg .entry)) (now (nodes .entry))) (now (out .entry))) (now (out .entry)) (reply r) (now (out .exit)) ⌝ }
+    ensures { λ r. ⌜ Sets (writing (tables (now (reg .entry)) (now (nodes .entry)))) (now (out .entry)) r (now (out .exit)) ⌝ }
 {
     let lent = check_tables(reg, nodes);
     if refused(lent) {
@@ -199,7 +199,7 @@ fn read_answer(r: ReadSheet) -> Answer
 
 // Reads a sheet into both tables: the kits read.
 pub fn read_sheet(reg: &mut [u8], nodes: &mut [u16], s: &[u8]) -> Answer
-    ensures { λ r. ⌜ Promise (reading (now (s .entry)) (tables (now (reg .entry)) (now (nodes .entry)))) (tables (now (reg .entry)) (now (nodes .entry))) (reply r) (tables (now (reg .exit)) (now (nodes .exit))) ⌝ }
+    ensures { λ r. ⌜ Leaves (reading (now (s .entry))) (now (reg .entry)) (now (nodes .entry)) r (now (reg .exit)) (now (nodes .exit)) ⌝ }
 {
     let sized = check_lengths(reg, nodes);
     if refused(sized) {

@@ -5,10 +5,9 @@ use mathlib.Core.List.{List, [], _∷_, _++_, map, append-assoc}
 use Prim.Native.Nat.{ℕ, _+_, _≤_, _<_}
 use native.Mathlib.Omega.{arith}
 use lib.ListN.{length, length-append}
-use borrow.Author.Tests.{lt-ltb, le-ltb}
 use Rattle.ground.specs.Lists.{keep, concat}
 use Rattle.ground.specs.Calls.{done, refused, decide, answer, Promise}
-use Rattle.ground.proofs.Calls.{promise-refused, promise-done}
+use Rattle.ground.proofs.Calls.{set-down-full, set-down-done}
 use Rattle.kits.specs.Kits.{before, mostPlace}
 use Rattle.register.specs.Register.{partsOf}
 use Rattle.register.specs.Inner.{Ready}
@@ -99,9 +98,9 @@ module _ (R N : List ℕ) (ready : Ready R) (n m : ℕ) (parts : n ≡ length (p
 -- what the writer promises
 module _ (c : Contents) (o : List ℕ) (n : ℕ) (need : n ≡ length (encode c)) where
   pub writing-12 : length o < n → Promise (writing c o) o (refused 12 n) o
-  unfolding writing answer decide
-  writing-12 h = promise-refused (writing c o) o 12 n (let t = lt-ltb (length o) (length (encode c)) (omega arith) in rw (t, need))
+  unfolding writing
+  writing-12 h = rw need (set-down-full (encode c) o (omega (arith, need)))
 
   pub writing-done : (m : List ℕ) (r : ℕ) → n ≤ length o → SetDown o m (encode c) r → Promise (writing c o) o (done r) m
-  unfolding writing answer decide
-  writing-done m r h d = promise-done (writing c o) o r m (let t = le-ltb (length o) (length (encode c)) (omega arith) in rw (t, d .ends)) (d .is)
+  unfolding writing
+  writing-done m r h d = rw (d .ends, d .is) (set-down-done (encode c) o (omega (arith, need)))

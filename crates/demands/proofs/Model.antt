@@ -1,6 +1,6 @@
 -- Lists of kits as accepted calls leave them, in any order: how they stand to the same kits in listing order.
-use mathlib.Core.Path.{_≡_, refl, sym, ap, subst, _∙_}
-use mathlib.Core.Logic.{_⊎_, ⊎-elim, _≢_}
+use mathlib.Core.Path.{_≡_, sym, ap, subst, _∙_}
+use mathlib.Core.Logic.{⊎-elim, _≢_}
 use mathlib.Core.List.{List, [], _∷_, List·Memᴰ, List·Memᴰ·head, List·Memᴰ·tail, List·Memᴰ·not-nil, List·Memᴰ·cases-cons}
 use Prim.Native.Nat.{ℕ, _<_}
 use native.Mathlib.Omega.{arith}
@@ -8,8 +8,8 @@ use Rattle.ground.specs.Lists.{eqList}
 use Rattle.ground.proofs.Laws.{by-cond, eqList-refl, eqList-true}
 use Rattle.nodes.specs.Held.{Kit, inOrder, dropKit, tagIn}
 use Rattle.nodes.proofs.Lists.{never, zero-or}
-use Rattle.nodes.proofs.Sorted.{Every, Rising, none, also, ahead, every-mem, mem-every, every-map, rising-weaken}
-use Rattle.nodes.proofs.Listing.{Earlier, OtherRow, listing-same, earlier-other, order-mem, mem-order, order-rises, drop-rises, drop-mem, drop-keep, tag-in, tag-none, tag-from}
+use Rattle.nodes.proofs.Sorted.{Every, Rising, none, also, ahead, every-mem, rising-weaken}
+use Rattle.nodes.proofs.Listing.{Earlier, OtherRow, listing-same, earlier-other, order-mem, mem-order, order-rises, drop-rises, drop-mem, drop-keep, tag-in, tag-from}
 
 -- kits in listing order have different rows
 pub apart : {ks : List Kit} → Rising Earlier ks → Rising OtherRow ks
@@ -21,7 +21,7 @@ order-same ks s = listing-same (order-rises (apart s)) s (λ k m. order-mem k ks
 
 -- Taking a kit out of a list in any order
 module _ (r : List ℕ) where
-  every-dropped : {P : Kit → Type 0} (ks : List Kit) → Every P ks → Every P (dropKit r ks)
+  pub every-dropped : {P : Kit → Type 0} (ks : List Kit) → Every P ks → Every P (dropKit r ks)
   unfolding dropKit
   every-dropped [] none = none
   every-dropped {P} (k ∷ ks) (also q s) = by-cond (Every P) (eqList r (k .row)) ks (k ∷ dropKit r ks) (λ _. s) (λ _. also q (every-dropped ks s))

@@ -1,0 +1,90 @@
+-- Document 01, "Short cases to prove": "One statement covers this table". Proof: crates/demands, ShortCases, `short-cases`. And the desk's worked
+-- example, as calls.
+use mathlib.Core.Path.{_≡_}
+use mathlib.Core.List.{List, [], _∷_, _++_, map}
+use Prim.Native.Nat.{ℕ, suc}
+use lib.ListN.{length, replicate}
+use Rattle.ground.specs.Calls.{Reply, done, refused, answer, memory}
+use Rattle.kits.specs.Kits.{listOf}
+use Rattle.nodes.specs.Nodes.{usedNodes}
+use Rattle.questions.specs.Questions.{isWithin, isContaining}
+use Rattle.lent.specs.Lent.{Tables}
+use Rattle.catalogue.specs.Calls.{Call, registerPart, insertKit, deleteKit, anyWithin, anyContaining, allKits, deleting, writing}
+use Rattle.catalogue.specs.Demands.{Question, log, tablesOf}
+
+-- kits inserted by their units, with the tags t, t + 1, ..
+unfoldable pub inserted : ℕ → List (List ℕ) → List Call
+inserted t [] = []
+inserted t (r ∷ rs) = insertKit (listOf r) t ∷ inserted (suc t) rs
+
+-- the tables of a catalogue of the parts A, B, C and four nodes, with kits that have the tags 1, 2, ..
+unfoldable pub holding : List (List ℕ) → Tables
+holding rs = tablesOf (record { slots = 3; room = 4; calls = registerPart (65 ∷ []) ∷ (registerPart (66 ∷ []) ∷ (registerPart (67 ∷ []) ∷ inserted 1 rs)) })
+
+-- all kits that answer a question on some units: the reply, and an output of two places
+unfoldable pub asked : Question → List (List ℕ) → List ℕ → Reply × List ℕ
+asked question rs r = let p = allKits question (listOf r) (holding rs) (0 ∷ (0 ∷ [])) in (answer p, memory p (0 ∷ (0 ∷ [])))
+
+-- a kit deleted: the reply, and the nodes used then
+unfoldable pub struck : List (List ℕ) → List ℕ → Reply × ℕ
+struck rs r = let p = deleting (listOf r) (holding rs) in (answer p, length (usedNodes (memory p (holding rs) .nodes)))
+
+-- row by row: kits held (units), question, answer
+abbrev pub ShortCases : Type 0
+ShortCases =
+    -- none; within {1}; none
+    (asked isWithin [] (1 ∷ []) ≡ (done 0, 0 ∷ (0 ∷ [])))
+    -- (); within (); ()
+    × (asked isWithin ([] ∷ []) [] ≡ (done 1, 1 ∷ (0 ∷ [])))
+    -- (); containing {1}; none
+    × (asked isContaining ([] ∷ []) (1 ∷ []) ≡ (done 0, 0 ∷ (0 ∷ [])))
+    -- (1), (1, 1); within {1}; (1)
+    × (asked isWithin ((1 ∷ []) ∷ ((1 ∷ (1 ∷ [])) ∷ [])) (1 ∷ []) ≡ (done 1, 1 ∷ (0 ∷ [])))
+    -- (1), (1, 1); containing {1}; (1), (1, 1)
+    × (asked isContaining ((1 ∷ []) ∷ ((1 ∷ (1 ∷ [])) ∷ [])) (1 ∷ []) ≡ (done 2, 1 ∷ (2 ∷ [])))
+    -- (1, 3); containing {3}; (1, 3)
+    × (asked isContaining ((1 ∷ (3 ∷ [])) ∷ []) (3 ∷ []) ≡ (done 1, 1 ∷ (0 ∷ [])))
+    -- (2); within {1, 2}; (2)
+    × (asked isWithin ((2 ∷ []) ∷ []) (1 ∷ (2 ∷ [])) ≡ (done 1, 1 ∷ (0 ∷ [])))
+    -- (1, 2), (2); within {2, 3}; (2)
+    × (asked isWithin ((1 ∷ (2 ∷ [])) ∷ ((2 ∷ []) ∷ [])) (2 ∷ (3 ∷ [])) ≡ (done 1, 2 ∷ (0 ∷ [])))
+    -- (1), (1, 2); delete (1), nodes used; 3
+    × (struck ((1 ∷ []) ∷ ((1 ∷ (2 ∷ [])) ∷ [])) (1 ∷ []) ≡ (done 1, 3))
+    -- (1), (1, 2); delete (1, 2), nodes used; 2
+    × (struck ((1 ∷ []) ∷ ((1 ∷ (2 ∷ [])) ∷ [])) (1 ∷ (2 ∷ [])) ≡ (done 2, 2))
+
+-- Document 01, "The desk program": the worked example as calls, with room for four parts and six nodes
+unfoldable pub entries : List Call
+entries =
+    registerPart (48 ∷ (48 ∷ (55 ∷ (52 ∷ (49 ∷ [])))))
+    ∷ (registerPart (55 ∷ (52 ∷ (49 ∷ [])))
+    ∷ (registerPart (48 ∷ (48 ∷ (55 ∷ (52 ∷ (49 ∷ [])))))
+    ∷ (registerPart (52 ∷ (48 ∷ (49 ∷ (54 ∷ []))))
+    ∷ (insertKit (1 ∷ (2 ∷ (3 ∷ (1 ∷ [])))) 7
+    ∷ (insertKit (1 ∷ (1 ∷ [])) 9
+    ∷ (insertKit (2 ∷ (1 ∷ [])) 5
+    ∷ (insertKit (1 ∷ (1 ∷ [])) 6
+    ∷ (insertKit (3 ∷ (1 ∷ [])) 7 ∷ []))))))))
+
+unfoldable pub later : List Call
+later =
+    anyContaining (3 ∷ (1 ∷ []))
+    ∷ (anyWithin (3 ∷ (1 ∷ []))
+    ∷ (deleteKit (1 ∷ (2 ∷ (3 ∷ (1 ∷ []))))
+    ∷ (insertKit (3 ∷ (2 ∷ (3 ∷ (1 ∷ [])))) 8 ∷ [])))
+
+-- the tables after some calls, and the replies
+unfoldable pub desk : List Call → Tables
+desk cs = tablesOf (record { slots = 4; room = 6; calls = cs })
+
+unfoldable pub replies : List Call → Tables → List Reply
+replies cs T = map (λ x. x .1) (log cs T)
+
+-- the replies, what b lists, and the bytes that W writes. Proof: crates/demands, ShortCases, `desk-example`
+abbrev pub DeskExample : Type 0
+DeskExample =
+    (replies entries (desk []) ≡ done 1 ∷ (done 2 ∷ (refused 9 1 ∷ (done 3 ∷ (done 3 ∷ (done 0 ∷ (done 1 ∷ (refused 9 9 ∷ (refused 10 0 ∷ [])))))))))
+    × (memory (allKits isWithin (1 ∷ (1 ∷ (2 ∷ (4 ∷ [])))) (desk entries) (0 ∷ (0 ∷ (0 ∷ [])))) (0 ∷ (0 ∷ (0 ∷ []))) ≡ 9 ∷ (5 ∷ (0 ∷ [])))
+    × (replies later (desk entries) ≡ done 7 ∷ (done 0 ∷ (done 7 ∷ (refused 4 0 ∷ []))))
+    × (answer (writing (desk (entries ++ later)) (replicate 34 0)) ≡ done 34)
+    × (memory (writing (desk (entries ++ later)) (replicate 34 0)) (replicate 34 0) ≡ 75 ∷ (73 ∷ (84 ∷ (0 ∷ (1 ∷ (0 ∷ (3 ∷ (5 ∷ (48 ∷ (48 ∷ (55 ∷ (52 ∷ (49 ∷ (3 ∷ (55 ∷ (52 ∷ (49 ∷ (4 ∷ (52 ∷ (48 ∷ (49 ∷ (54 ∷ (0 ∷ (2 ∷ (0 ∷ (9 ∷ (1 ∷ (1 ∷ (1 ∷ (0 ∷ (5 ∷ (1 ∷ (2 ∷ (1 ∷ []))))))))))))))))))))))))))))))))))

@@ -1,0 +1,13 @@
+-- The proofs of the three demands.
+pub mod Model
+pub mod Refusals
+pub mod Questions
+pub mod Brought
+pub mod Sizes
+pub mod Answers
+pub mod Sheets
+pub mod Counts
+pub mod Told
+pub mod Offsets
+pub mod Values
+pub mod ShortCases

@@ -1,0 +1,146 @@
+-- Demand 1 from any list of calls: every reply is what the accepted calls and the catalogue's size say.
+use mathlib.Core.Path.{_≡_, sym, ap, subst, _∙_}
+use mathlib.Core.List.{List, _∷_, append-assoc, List·Memᴰ}
+use Prim.Native.Nat.{ℕ, _+_, _-_}
+use native.Mathlib.Omega.{arith}
+use lib.ListN.{length}
+use lib.Dec.{ltb, eqb}
+use borrow.Author.Tests.{lt-ltb, ltb-true}
+use Rattle.ground.specs.Lists.{anyb}
+use Rattle.ground.specs.Calls.{done, decide, answer}
+use Rattle.ground.proofs.Laws.{same-cases}
+use Rattle.ground.proofs.Calls.{decide-behind}
+use Rattle.register.specs.Register.{slotCount}
+use Rattle.register.specs.Calls.{lentRegister, numberRefusals, registering, lookingUp, showing}
+use Rattle.kits.specs.Kits.{units}
+use Rattle.nodes.specs.Nodes.{size, freeNodes}
+use Rattle.nodes.specs.Held.{Kit, putKit, inOrder, tagIn, tagsOf, held, allBeginnings}
+use Rattle.nodes.proofs.Sorted.{anyb-eqb, eqb-anyb}
+use Rattle.nodes.proofs.Listing.{order-mem, mem-order, tags-mem, mem-tags}
+use Rattle.nodes.proofs.Held.{kit}
+use Rattle.nodes.proofs.Beginnings.{nodes-free}
+use Rattle.growing.specs.Enter.{lacks}
+use Rattle.index.specs.Index.{entryRefusals, missingRefusals}
+use Rattle.beginnings.proofs.Needed.{nodes-needed}
+use Rattle.questions.specs.Questions.{isWithin, isContaining}
+use Rattle.sheet.specs.Sheet.{Contents, nodesNeeded}
+use Rattle.lent.specs.Lent.{Tables, lengths, lentList}
+use Rattle.lent.proofs.Lent.{lengths-good}
+use Rattle.catalogue.specs.Calls.{Call, emptyBoth, registerPart, lookUp, showAt, insertKit, findKit, deleteKit, anyWithin, anyContaining, allWithin, allContaining, writeSheet, readSheet, planOf, emptying, inserting, finding, deleting, reading}
+use Rattle.catalogue.specs.Told.{more, told, ToldExactly}
+use Rattle.demands.proofs.Model.{tag-order}
+use Rattle.demands.proofs.Brought.{Brought, brought}
+use Rattle.demands.proofs.Sizes.{sizes}
+use Rattle.demands.proofs.Answers.{behind-tables, any-answer, all-answer}
+use Rattle.demands.proofs.Sheets.{write-answer}
+use Rattle.demands.proofs.Counts.{as-many}
+
+module _ {T : Tables} {m : Contents} (b : Brought T m) (slots room : ℕ) (hs : slotCount (T .register) ≡ slots) (hr : size (T .nodes) ≡ room) where
+  abbrev R : List ℕ
+  R = T .register
+
+  abbrev N : List ℕ
+  N = T .nodes
+
+  -- the register's calls
+  ready-lent : decide (lentRegister (T .register)) 0 ≡ done 0
+  unfolding lentRegister decide
+  ready-lent = let f = b .ready .fits in let s = b .ready .sound in rw (f, s)
+
+  register-told : (n : List ℕ) → answer (planOf (registerPart n) T) ≡ told slots room m (registerPart n)
+  unfolding answer planOf registering numberRefusals told
+  register-told n = let p = b .parts in rw (p, hs) (decide-behind (lentRegister R) _ 0 _ ready-lent)
+
+  look-told : (n : List ℕ) → answer (planOf (lookUp n) T) ≡ told slots room m (lookUp n)
+  unfolding answer planOf lookingUp told
+  look-told n = let p = b .parts in rw p (decide-behind (lentRegister R) _ 0 _ ready-lent)
+
+  show-told : (p : ℕ) → answer (planOf (showAt p) T) ≡ told slots room m (showAt p)
+  unfolding answer planOf showing told
+  show-told p = let q = b .parts in rw q (decide-behind (lentRegister R) _ 0 _ ready-lent)
+
+  -- what is held, in any order
+  tag-told : (r : List ℕ) → tagIn r (held (T .nodes)) ≡ tagIn r (m .kits)
+  tag-told r = ap (tagIn r) (b .kits) ∙ tag-order r (m .kits) (b .apart)
+
+  borne-told : (t : ℕ) → anyb (eqb t) (tagsOf (held (T .nodes))) ≡ anyb (eqb t) (tagsOf (m .kits))
+  borne-told t = same-cases (anyb (eqb t) (tagsOf (held N))) (anyb (eqb t) (tagsOf (m .kits)))
+      (λ h.
+      let o = tags-mem t (held N) (anyb-eqb t (tagsOf (held N)) h) in
+      eqb-anyb t (tagsOf (m .kits)) (subst (λ (x : ℕ). List·Memᴰ x (tagsOf (m .kits))) (o .2) (mem-tags (o .0) (m .kits) (order-mem (o .0) (m .kits) (subst (List·Memᴰ (o .0)) (b .kits) (o .1))))))
+      (λ h.
+      let o = tags-mem t (m .kits) (anyb-eqb t (tagsOf (m .kits)) h) in
+      eqb-anyb t (tagsOf (held N)) (subst (λ (x : ℕ). List·Memᴰ x (tagsOf (held N))) (o .2) (mem-tags (o .0) (held N) (subst (List·Memᴰ (o .0)) (sym (b .kits)) (mem-order (o .0) (m .kits) (o .1))))))
+
+  -- the nodes that an insertion takes, and those that are free
+  module _ (l : List ℕ) (t : ℕ) where
+    grown : nodesNeeded (more m l t) ≡ nodesNeeded m + lacks (T .nodes) 0 (units l)
+    unfolding inOrder
+    grown =
+        let e : putKit (kit (units l) t) (held N) ≡ inOrder (kit (units l) t ∷ m .kits) = ap (putKit (kit (units l) t)) (b .kits) in
+        omega (arith, nodes-needed (b .sound) (units l) t, ap (λ (ks : List Kit). length (allBeginnings ks)) e, as-many (kit (units l) t ∷ m .kits), ap (λ (ks : List Kit). length (allBeginnings ks)) (b .kits), as-many (m .kits))
+
+    free-told : nodesNeeded m + length (freeNodes (T .nodes)) ≡ room
+    free-told = omega (arith, nodes-free (b .sound), ap (λ (ks : List Kit). length (allBeginnings ks)) (b .kits), as-many (m .kits), hr)
+
+    full-told : ltb (length (freeNodes (T .nodes))) (lacks (T .nodes) 0 (units l)) ≡ ltb room (nodesNeeded (more m l t))
+    full-told = same-cases (ltb (length (freeNodes N)) (lacks N 0 (units l))) (ltb room (nodesNeeded (more m l t)))
+        (λ h. lt-ltb room (nodesNeeded (more m l t)) (omega (arith, ltb-true (length (freeNodes N)) (lacks N 0 (units l)) h, grown, free-told)))
+        (λ h. lt-ltb (length (freeNodes N)) (lacks N 0 (units l)) (omega (arith, ltb-true room (nodesNeeded (more m l t)) h, grown, free-told)))
+
+    too-few : lacks (T .nodes) 0 (units l) - length (freeNodes (T .nodes)) ≡ nodesNeeded (more m l t) - room
+    too-few = omega (arith, grown, free-told)
+
+    taken : lacks (T .nodes) 0 (units l) ≡ nodesNeeded (more m l t) - nodesNeeded m
+    taken = omega (arith, grown)
+
+    insert-told : answer (planOf (insertKit l t) T) ≡ told slots room m (insertKit l t)
+    unfolding answer planOf inserting entryRefusals told
+    insert-told =
+        let p = b .parts in
+        let e1 = tag-told (units l) in
+        let e2 = borne-told t in
+        let e3 = full-told in
+        let e4 = too-few in
+        let e5 = taken in
+        rw (p, e1, e2, e3, e4, e5) (behind-tables b _ _)
+
+  -- the calls on a list
+  find-told : (l : List ℕ) → answer (planOf (findKit l) T) ≡ told slots room m (findKit l)
+  unfolding answer planOf finding lentList missingRefusals told
+  find-told l = let p = b .parts in let e = tag-told (units l) in rw (p, e, append-assoc) (behind-tables b _ _)
+
+  delete-told : (l : List ℕ) → answer (planOf (deleteKit l) T) ≡ told slots room m (deleteKit l)
+  unfolding answer planOf deleting lentList missingRefusals told
+  delete-told l = let p = b .parts in let e = tag-told (units l) in rw (p, e, append-assoc) (behind-tables b _ _)
+
+  -- both tables emptied or filled
+  sized-lent : decide (lengths T) 0 ≡ done 0
+  sized-lent = lengths-good R N (b .ready .fits) (b .sized)
+
+  empty-told : answer (planOf emptyBoth T) ≡ told slots room m emptyBoth
+  unfolding answer planOf emptying told
+  empty-told = sized-lent
+
+  read-told : (s : List ℕ) → answer (planOf (readSheet s) T) ≡ told slots room m (readSheet s)
+  unfolding answer planOf reading told
+  read-told s = rw (hs, hr) (decide-behind (lengths T) _ 0 _ sized-lent)
+
+  pub call-told : (c : Call) → answer (planOf c T) ≡ told slots room m c
+  unfolding planOf told answer
+  call-told emptyBoth = empty-told
+  call-told (registerPart n) = register-told n
+  call-told (lookUp n) = look-told n
+  call-told (showAt p) = show-told p
+  call-told (insertKit l t) = insert-told l t
+  call-told (findKit l) = find-told l
+  call-told (deleteKit l) = delete-told l
+  call-told (anyWithin l) = any-answer b isWithin l
+  call-told (anyContaining l) = any-answer b isContaining l
+  call-told (allWithin l o) = all-answer b isWithin l o
+  call-told (allContaining l o) = all-answer b isContaining l o
+  call-told (writeSheet o) = write-answer b o
+  call-told (readSheet s) = read-told s
+
+pub told-exactly : ToldExactly
+told-exactly a c h = let z = sizes a h in call-told (brought a h) (a .slots) (a .room) (z .slots) (z .room) c

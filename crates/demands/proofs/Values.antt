@@ -1,0 +1,307 @@
+-- "Each answer is a number (0 for done) and a value below 2^32": of every call, refused or done.
+use mathlib.Core.Path.{_≡_, refl, ap, _∙_}
+use mathlib.Core.Logic.{⊎-elim}
+use mathlib.Core.Bool.{Bool, true, false}
+use mathlib.Core.List.{List, [], _∷_, _++_, map, append-nil, List·Memᴰ, List·Memᴰ·head, List·Memᴰ·tail}
+use Prim.Native.Nat.{ℕ, suc, _+_, _*_, _≤_, _<_}
+use native.Mathlib.Nat.{suc-mul}
+use native.Mathlib.Omega.{arith}
+use lib.ListN.{length, getD, length-append, length-map}
+use borrow.Author.Tests.{not-false, ltb-false}
+use Rattle.ground.specs.Lists.{anyb, concat, keep, eqList, isZero}
+use Rattle.ground.specs.Calls.{Case, Reply, done, refused, isRefused, valueOf, decide, answer, setDown}
+use Rattle.ground.proofs.Laws.{by-cond}
+use Rattle.ground.proofs.Calls.{whole-passes, done-passes}
+use Rattle.register.specs.Number.{goodNumber}
+use Rattle.register.specs.Register.{partsOf, placeFrom, placeIn}
+use Rattle.register.specs.Calls.{lentRegister, numberRefusals, registering, lookingUp, showing}
+use Rattle.register.specs.Inner.{Ready}
+use Rattle.register.proofs.Slots.{number-short}
+use Rattle.kits.specs.Kits.{mostUnits, mostPlace, units, GoodRow, lineValue, linesFaults, listFaults}
+use Rattle.nodes.specs.Sound.{Sound}
+use Rattle.nodes.specs.Held.{Kit, held, tagIn, tagsOf, firstTag, beginnings, addNew, allBeginnings}
+use Rattle.nodes.proofs.Lists.{zero-or}
+use Rattle.nodes.proofs.Sorted.{Every, none, also, every-append, allb-mem}
+use Rattle.nodes.proofs.Decided.{sound-exactly}
+use Rattle.nodes.proofs.Listing.{tag-from}
+use Rattle.linking.specs.Links.{childWith}
+use Rattle.growing.specs.Enter.{lacks}
+use Rattle.index.specs.Index.{entryRefusals, missingRefusals}
+use Rattle.questions.specs.Questions.{isWithin, isContaining, fitting, anyOf, allOf}
+use Rattle.questions.proofs.Meaning.{fitting-exactly}
+use Rattle.sheet.specs.Bytes.{inBytes, two, twoLimit, Bytes}
+use Rattle.sheet.specs.Sheet.{Contents, contentsOf, placeBytes, numberItem, numberItems, recordItem, recordItems, encode, goodKit, nodesNeeded}
+use Rattle.sheet.specs.Reading.{decode, said}
+use Rattle.sheet.specs.Calls.{sheetRefusals, roomRefusals}
+use Rattle.writing.proofs.Records.{number-size, record-size, lines-few}
+use Rattle.filling.proofs.Listed.{Fits, fitting-fits, kit-fits}
+use Rattle.filling.proofs.Reading.{said-again}
+use Rattle.filling.proofs.RoundTrip.{SmallTags, words-small, catalogue-fits}
+use Rattle.lent.proofs.Lent.{Lent, both-passed, lent-passed, few-parts}
+use Rattle.lent.specs.Lent.{Tables, tables, partCount, lengths, lentBoth, lentList}
+use Rattle.catalogue.specs.Calls.{emptyBoth, registerPart, lookUp, showAt, insertKit, findKit, deleteKit, anyWithin, anyContaining, allWithin, allContaining, writeSheet, readSheet, planOf, emptying, inserting, finding, deleting, anyKit, allKits, writing, reading}
+use Rattle.catalogue.specs.Demands.{Question, ValuesFit}
+use Rattle.demands.proofs.Offsets.{fault-near}
+
+-- The first refusals have the value 0, so that what stands behind them matters only where they pass
+abbrev Plain : Case → Type 0
+Plain c = c .value ≡ 0
+
+module _ (B : ℕ) (some-limit : 0 < B) where
+  small-step : (c : Case) (cs : List Case) (v : ℕ) → (c .test ≡ true → c .value < B) → (c .test ≡ false → valueOf (decide cs v) < B) → valueOf (decide (c ∷ cs) v) < B
+  unfolding decide
+  small-step c cs v f g = by-cond (λ (r : Reply). valueOf r < B) (c .test) (refused (c .number) (c .value)) (decide cs v) f g
+
+  next-passes : (c : Case) (cs : List Case) → c .test ≡ false → isRefused (decide cs 0) ≡ false → isRefused (decide (c ∷ cs) 0) ≡ false
+  unfolding decide
+  next-passes c cs t e = rw t e
+
+  none-passes : isRefused (decide [] 0) ≡ false
+  unfolding decide
+  none-passes = refl
+
+  small-front : (cs ds : List Case) (v : ℕ) → Every Plain cs → (isRefused (decide cs 0) ≡ false → valueOf (decide ds v) < B) → valueOf (decide (cs ++ ds) v) < B
+  small-front [] ds v none g = g none-passes
+  small-front (c ∷ cs) ds v (also p ps) g = small-step c (cs ++ ds) v (λ t. omega arith) (λ t. small-front cs ds v ps (λ e. g (next-passes c cs t e)))
+
+-- Tags
+tag-small : (B : ℕ) (r : List ℕ) (ks : List Kit) → 0 < B → ((k : Kit) → List·Memᴰ k ks → k .tag < B) → tagIn r ks < B
+tag-small B r ks h f = ⊎-elim
+    (λ (z : tagIn r ks ≡ 0). omega arith)
+    (λ (g : 0 < tagIn r ks). let o = tag-from r ks (λ z. omega arith) in omega (arith, f (o .0) (o .1), o .3))
+    (zero-or (tagIn r ks))
+
+first-small : (B : ℕ) (ks : List Kit) → 0 < B → ((k : Kit) → List·Memᴰ k ks → k .tag < B) → firstTag ks < B
+unfolding firstTag
+first-small B [] h f = h
+first-small B (k ∷ ks) h f = f k (List·Memᴰ·head refl)
+
+tags-long : (ks : List Kit) → length (tagsOf ks) ≡ length ks
+unfolding tagsOf
+tags-long [] = refl
+tags-long (k ∷ ks) = ap suc (tags-long ks)
+
+keep-long : {A : Type 0} (p : A → Bool) (xs : List A) → length (keep p xs) ≤ length xs
+unfolding keep
+keep-long p [] = omega arith
+keep-long p (x ∷ xs) = by-cond (λ l. length l ≤ suc (length xs)) (p x) (x ∷ keep p xs) (keep p xs) (λ _. omega (arith, keep-long p xs)) (λ _. omega (arith, keep-long p xs))
+
+-- Items one behind the other
+concat-long : {A : Type 0} (f : A → List ℕ) (b : ℕ) (xs : List A) → ((x : A) → List·Memᴰ x xs → length (f x) ≤ b) → length (concat (map f xs)) ≤ length xs * b
+unfolding concat
+concat-long f b [] h = omega arith
+concat-long f b (x ∷ xs) h = omega (arith, length-append (f x) (concat (map f xs)), h x (List·Memᴰ·head refl), concat-long f b xs (λ y m. h y (List·Memᴰ·tail m)), suc-mul (length xs) b)
+
+-- Beginnings
+beginnings-long : (r : List ℕ) → length (beginnings r) ≡ length r
+unfolding beginnings
+beginnings-long [] = refl
+beginnings-long (x ∷ r) = ap suc (length-map (beginnings r) (_∷_ x) ∙ beginnings-long r)
+
+add-long : (bs seen : List (List ℕ)) → length (addNew bs seen) ≤ length bs + length seen
+unfolding addNew
+add-long [] seen = omega arith
+add-long (b ∷ bs) seen = by-cond (λ (l : List (List ℕ)). length (addNew bs l) ≤ suc (length bs) + length seen) (anyb (eqList b) seen) seen (b ∷ seen) (λ _. omega (arith, add-long bs seen)) (λ _. omega (arith, add-long bs (b ∷ seen)))
+
+all-long : (n : ℕ) (ks : List Kit) → ((k : Kit) → List·Memᴰ k ks → length (k .row) ≤ n) → length (allBeginnings ks) ≤ length ks * n
+unfolding allBeginnings
+all-long n [] h = omega arith
+all-long n (k ∷ ks) h = omega (arith, add-long (beginnings (k .row)) (allBeginnings ks), beginnings-long (k .row), h k (List·Memᴰ·head refl), all-long n ks (λ y m. h y (List·Memᴰ·tail m)), suc-mul (length ks) n)
+
+-- Places
+place-most : (k : ℕ) (n : List ℕ) (ps : List (List ℕ)) → placeFrom k n ps ≤ k + length ps
+unfolding placeFrom
+place-most k n [] = omega arith
+place-most k n (p ∷ ps) = by-cond (λ (x : ℕ). x ≤ k + suc (length ps)) (eqList n p) k (placeFrom (suc k) n ps) (λ _. omega arith) (λ _. omega (arith, place-most (suc k) n ps))
+
+-- What a row lacks
+lacks-most : (N : List ℕ) (p : ℕ) (r : List ℕ) → lacks N p r ≤ length r
+unfolding lacks
+lacks-most N p [] = omega arith
+lacks-most N p (l ∷ r) = by-cond (λ (x : ℕ). x ≤ suc (length r)) (isZero (childWith N p l)) (suc (length r)) (lacks N (childWith N p l) r) (λ _. omega arith) (λ _. omega (arith, lacks-most N (childWith N p l) r))
+
+-- The refusals of what is lent
+lengths-plain : (T : Tables) → Every Plain (lengths T)
+unfolding lengths
+lengths-plain T = also refl (also refl none)
+
+both-plain : (T : Tables) → Every Plain (lentBoth T)
+unfolding lentBoth
+both-plain T = every-append (lengths-plain T) (also refl (also refl none))
+
+lines-plain : (n prev k : ℕ) (l : List ℕ) → Every Plain (linesFaults n prev k l)
+unfolding linesFaults lineValue
+lines-plain n prev k [] = none
+lines-plain n prev k (p ∷ []) = none
+lines-plain n prev k (p ∷ (q ∷ l)) = also refl (also refl (also refl (lines-plain n p (suc k) l)))
+
+faults-plain : (n : ℕ) (l : List ℕ) → Every Plain (listFaults n l)
+unfolding listFaults lineValue
+faults-plain n l = also refl (lines-plain n 0 1 l)
+
+list-plain : (T : Tables) (l : List ℕ) → Every Plain (lentList T l)
+unfolding lentList
+list-plain T l = every-append (both-plain T) (faults-plain (partCount T) l)
+
+register-plain : (R : List ℕ) → Every Plain (lentRegister R)
+unfolding lentRegister
+register-plain R = also refl (also refl none)
+
+register-passed : (R : List ℕ) → isRefused (decide (lentRegister R) 0) ≡ false → Ready R
+unfolding lentRegister
+register-passed R e =
+    let d = whole-passes (decide (lentRegister R) 0) (lentRegister R) 0 0 refl e in
+    let a = done-passes _ _ _ _ d in
+    let b = done-passes _ _ _ _ (a .1) in
+    record { fits = not-false _ (a .0); sound = not-false _ (b .0) }
+
+abbrev limit : ℕ
+limit = 4294967296
+
+some-limit : 0 < limit
+some-limit = omega arith
+
+end-small : (v : ℕ) → v < limit → valueOf (decide [] v) < limit
+unfolding decide
+end-small v h = h
+
+small-end : (cs : List Case) (v : ℕ) → Every Plain cs → (isRefused (decide cs 0) ≡ false → v < limit) → valueOf (decide cs v) < limit
+small-end cs v p f = rw append-nil at (small-front limit some-limit cs [] v p (λ e. end-small v (f e)))
+
+-- an output that is set down
+down-small : (cs : List Case) (xs o : List ℕ) → Every Plain cs → (isRefused (decide cs 0) ≡ false → length xs < limit) → valueOf (answer (setDown cs xs o)) < limit
+unfolding answer setDown
+down-small cs xs o p f = small-front limit some-limit cs _ _ p (λ e. small-step limit some-limit _ _ _ (λ _. f e) (λ _. end-small _ (f e)))
+
+-- The register's calls
+module _ (n R : List ℕ) where
+  place-small : Ready R → placeIn n (partsOf R) < limit
+  unfolding placeIn
+  place-small r = omega (arith, place-most 1 n (partsOf R), few-parts R r)
+
+  registering-small : valueOf (answer (registering n R)) < limit
+  unfolding answer registering numberRefusals
+  registering-small = small-front limit some-limit (lentRegister R) _ _ (register-plain R) (λ e.
+      let r = register-passed R e in
+      small-step limit some-limit _ _ _ (λ _. some-limit) (λ _.
+      small-step limit some-limit _ _ _ (λ _. place-small r) (λ _.
+      small-step limit some-limit _ _ _ (λ _. omega arith) (λ _. end-small _ (omega (arith, few-parts R r))))))
+
+  looking-small : valueOf (answer (lookingUp n R)) < limit
+  unfolding answer lookingUp
+  looking-small = small-front limit some-limit (lentRegister R) _ _ (register-plain R) (λ e.
+      let r = register-passed R e in
+      small-step limit some-limit _ _ _ (λ _. some-limit) (λ _.
+      small-step limit some-limit _ _ _ (λ _. some-limit) (λ _. end-small _ (place-small r))))
+
+showing-small : (p : ℕ) (R : List ℕ) → valueOf (answer (showing p R)) < limit
+unfolding answer showing
+showing-small p R = small-front limit some-limit (lentRegister R) _ _ (register-plain R) (λ e. small-step limit some-limit _ _ _ (λ _. some-limit) (λ _. end-small _ some-limit))
+
+-- Tables that are lent, of 16-bit words
+module _ (R N : List ℕ) (words : (i : ℕ) → getD N i 0 < twoLimit) where
+  module _ (L : Lent R N) where
+    sound-here : Sound (length (partsOf R)) N
+    sound-here = sound-exactly (length (partsOf R)) N (L .sized) .0 (L .decided)
+
+    tags-here : SmallTags N
+    tags-here = words-small (sound-here .shape) words
+
+    fits-here : Fits (contentsOf R N)
+    fits-here = fitting-fits (contentsOf R N) (catalogue-fits (L .ready) sound-here tags-here)
+
+    tag-here : (r : List ℕ) → tagIn r (held N) < limit
+    tag-here r = omega (arith, tag-small twoLimit r (held N) (omega arith) tags-here)
+
+    kits-here : length (held N) < limit
+    kits-here = omega (arith, fits-here .few-kits)
+
+    fitting-here : (question : Question) (l : List ℕ) (k : Kit) → List·Memᴰ k (fitting question l N) → k .tag < limit
+    fitting-here question l k m = omega (arith, tags-here k (fitting-exactly question l N k .0 m .0))
+
+  abbrev T : Tables
+  T = tables R N
+
+  list-lent : (l : List ℕ) → isRefused (decide (lentList T l) 0) ≡ false → Lent R N
+  list-lent l e = lent-passed R N l e .both
+
+  inserting-small : (l : List ℕ) (t : ℕ) → valueOf (answer (inserting l t (tables R N))) < limit
+  unfolding answer inserting entryRefusals
+  inserting-small l t = small-front limit some-limit (lentBoth T) _ _ (both-plain T) (λ e.
+      let L = both-passed R N e in
+      small-step limit some-limit _ _ _ (λ _. some-limit) (λ _.
+      small-front limit some-limit (listFaults (partCount T) l) _ _ (faults-plain (partCount T) l) (λ _.
+      small-step limit some-limit _ _ _ (λ _. some-limit) (λ s.
+      let few : lacks N 0 (units l) ≤ 64 = omega (arith, lacks-most N 0 (units l), ltb-false mostUnits (length (units l)) s) in
+      small-step limit some-limit _ _ _ (λ _. tag-here L (units l)) (λ _.
+      small-step limit some-limit _ _ _ (λ _. some-limit) (λ _.
+      small-step limit some-limit _ _ _ (λ _. omega arith) (λ _. end-small _ (omega arith))))))))
+
+  finding-small : (l : List ℕ) → valueOf (answer (finding l (tables R N))) < limit
+  unfolding answer finding missingRefusals
+  finding-small l = small-front limit some-limit (lentList T l) _ _ (list-plain T l) (λ e. small-step limit some-limit _ _ _ (λ _. some-limit) (λ _. end-small _ (tag-here (list-lent l e) (units l))))
+
+  deleting-small : (l : List ℕ) → valueOf (answer (deleting l (tables R N))) < limit
+  unfolding answer deleting missingRefusals
+  deleting-small l = small-front limit some-limit (lentList T l) _ _ (list-plain T l) (λ e. small-step limit some-limit _ _ _ (λ _. some-limit) (λ _. end-small _ (tag-here (list-lent l e) (units l))))
+
+  any-small : (question : Question) (l : List ℕ) → valueOf (answer (anyKit question l (tables R N))) < limit
+  unfolding answer anyKit anyOf
+  any-small question l = small-end (lentList T l) _ (list-plain T l) (λ e. first-small limit (fitting question l N) some-limit (fitting-here (list-lent l e) question l))
+
+  all-small : (question : Question) (l o : List ℕ) → valueOf (answer (allKits question l (tables R N) o)) < limit
+  unfolding allKits allOf fitting
+  all-small question l o = down-small (lentList T l) _ o (list-plain T l) (λ e. omega (arith, tags-long (fitting question l N), keep-long (question (units l)) (held N), kits-here (list-lent l e)))
+
+  emptying-small : valueOf (answer (emptying (tables R N))) < limit
+  unfolding answer emptying
+  emptying-small = small-end (lengths T) 0 (lengths-plain T) (λ _. some-limit)
+
+-- A sheet that fits the format
+module _ (c : Contents) (F : Fits c) where
+  row-short : (k : Kit) → List·Memᴰ k (c .kits) → GoodRow mostPlace (k .row)
+  row-short k m = kit-fits (length (c .parts)) mostPlace k (F .few-parts) (allb-mem (goodKit (length (c .parts))) (c .kits) k (F .kits-good) m) .row
+
+  numbers-long : length (numberItems (c .parts)) ≤ length (c .parts) * 25
+  unfolding numberItems
+  numbers-long = concat-long numberItem 25 (c .parts) (λ p m. omega (arith, number-size p, number-short p (allb-mem goodNumber (c .parts) p (F .numbers-good) m)))
+
+  records-long : length (recordItems placeBytes (c .kits)) ≤ length (c .kits) * 131
+  unfolding recordItems
+  records-long = concat-long (recordItem placeBytes) 131 (c .kits) (λ k m. omega (arith, record-size (k .row) (k .tag) (row-short k m), lines-few (k .row), row-short k m .short))
+
+  sheet-small : length (encode c) < limit
+  unfolding encode inBytes
+  sheet-small = omega (arith, length-append (numberItems (c .parts)) (two (length (c .kits)) ++ recordItems placeBytes (c .kits)), numbers-long, records-long, F .few-parts, F .few-kits)
+
+  nodes-small : nodesNeeded c < limit
+  nodes-small = omega (arith, all-long 64 (c .kits) (λ k m. row-short k m .short), F .few-kits)
+
+writing-small : (R N : List ℕ) (words : (i : ℕ) → getD N i 0 < twoLimit) (o : List ℕ) → valueOf (answer (writing (tables R N) o)) < limit
+unfolding writing
+writing-small R N words o = down-small (lentBoth (tables R N)) _ o (both-plain (tables R N)) (λ e. sheet-small (contentsOf R N) (fits-here R N words (both-passed R N e)))
+
+reading-small : (s : List ℕ) (T : Tables) → Bytes s → valueOf (answer (reading s T)) < limit
+unfolding answer reading sheetRefusals roomRefusals
+reading-small s T h = small-front limit some-limit (lengths T) _ _ (lengths-plain T) (λ e.
+    small-step limit some-limit _ _ _ (λ _. omega (arith, fault-near s h)) (λ f.
+    let c = said (decode s) in
+    let F : Fits c = fitting-fits c (said-again s h f .1) in
+    small-step limit some-limit _ _ _ (λ _. omega (arith, F .few-parts)) (λ _.
+    small-step limit some-limit _ _ _ (λ _. nodes-small c F) (λ _. end-small _ (omega (arith, F .few-kits))))))
+
+pub values-fit : ValuesFit
+unfolding planOf answer
+values-fit emptyBoth T w b = emptying-small (T .register) (T .nodes) w
+values-fit (registerPart n) T w b = registering-small n (T .register)
+values-fit (lookUp n) T w b = looking-small n (T .register)
+values-fit (showAt p) T w b = showing-small p (T .register)
+values-fit (insertKit l t) T w b = inserting-small (T .register) (T .nodes) w l t
+values-fit (findKit l) T w b = finding-small (T .register) (T .nodes) w l
+values-fit (deleteKit l) T w b = deleting-small (T .register) (T .nodes) w l
+values-fit (anyWithin l) T w b = any-small (T .register) (T .nodes) w isWithin l
+values-fit (anyContaining l) T w b = any-small (T .register) (T .nodes) w isContaining l
+values-fit (allWithin l o) T w b = all-small (T .register) (T .nodes) w isWithin l o
+values-fit (allContaining l o) T w b = all-small (T .register) (T .nodes) w isContaining l o
+values-fit (writeSheet o) T w b = writing-small (T .register) (T .nodes) w o
+values-fit (readSheet s) T w b = reading-small s T (b s refl)
