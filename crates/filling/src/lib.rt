@@ -7,7 +7,7 @@ ghost use Rattle.ground.specs.Laid.{laid, zeroed};
 ghost use Rattle.register.specs.Register.{slotBytes, slotCount, registerLength, registerOf};
 ghost use Rattle.nodes.specs.Nodes.{nodesLength};
 ghost use Rattle.growing.specs.Enter.{enterAll};
-ghost use Rattle.sheet.specs.Sheet.{numberItem};
+ghost use Rattle.sheet.specs.Sheet.{numberItem, headBytes};
 ghost use Rattle.sheet.specs.Reading.{decode};
 ghost use Rattle.judging.specs.Judged.{judgedOf, numberHere, nextPlace, numbersAt, endAt};
 ghost use Rattle.judging.specs.declared.Judged.the-variants.{Good};
@@ -51,7 +51,7 @@ fn enter_number(reg: &mut [u8], s: &[u8], at: usize, k: usize) -> usize
 // Empties the register and fills it with the n numbers of the sheet: where they end.
 fn fill_register(reg: &mut [u8], s: &[u8], n: usize) -> usize
     requires { ⌜ NumbersStand (now s) n (now reg) ⌝ }
-    ensures { λ r. ⌜ r ≡ endAt (now (s .entry)) 7 n ⌝ ∗ ⌜ now (reg .exit) ≡ registerOf (slotCount (now (reg .entry))) (numbersAt (now (s .entry)) 7 n) ⌝ }
+    ensures { λ r. ⌜ r ≡ endAt (now (s .entry)) headBytes n ⌝ ∗ ⌜ now (reg .exit) ≡ registerOf (slotCount (now (reg .entry))) (numbersAt (now (s .entry)) headBytes n) ⌝ }
 {
     clear(reg);
     let mut at = Sheet::HEAD;
@@ -80,8 +80,8 @@ fn fill_nodes(nodes: &mut [u16], s: &[u8], from: usize, m: usize)
 
 // Empties both tables and fills them with n parts and m kits of a sheet.
 pub fn fill(reg: &mut [u8], nodes: &mut [u16], s: &[u8], n: usize, m: usize)
-    requires { ⌜ NumbersStand (now s) n (now reg) ⌝ ∗ ⌜ KitsStand (now s) (endAt (now s) 7 n + 2) m (now nodes) ⌝ }
-    ensures { λ _. ⌜ (now (reg .exit) ≡ registerOf (slotCount (now (reg .entry))) (numbersAt (now (s .entry)) 7 n)) × (now (nodes .exit) ≡ enterAll (zeroed (now (nodes .entry))) (kitsRead (now (s .entry)) (endAt (now (s .entry)) 7 n + 2) m)) ⌝ }
+    requires { ⌜ NumbersStand (now s) n (now reg) ⌝ ∗ ⌜ KitsStand (now s) (endAt (now s) headBytes n + 2) m (now nodes) ⌝ }
+    ensures { λ _. ⌜ (now (reg .exit) ≡ registerOf (slotCount (now (reg .entry))) (numbersAt (now (s .entry)) headBytes n)) × (now (nodes .exit) ≡ enterAll (zeroed (now (nodes .entry))) (kitsRead (now (s .entry)) (endAt (now (s .entry)) headBytes n + 2) m)) ⌝ }
 {
     let at = fill_register(reg, s, n);
     fill_nodes(nodes, s, at + 2, m);
