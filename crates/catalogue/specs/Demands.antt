@@ -29,7 +29,8 @@ use Rattle.catalogue.specs.Calls.{contents, Call, emptyBoth, registerPar
 abbrev pub RefusedExactly : Type 0
 RefusedExactly = (c : Call) (T : Tables) (n v : ℕ) → (answer (planOf c T) ≡ refused n v) ↔ Given n v (planOf c T .cases)
 
--- (specs/Told says the same from any list of calls: each reply in terms of what the accepted calls left.)
+-- (crates/demands, specs/Told says the same from any list of calls: each reply in terms of what the accepted calls left; specs/ShortCases has the
+-- document's own examples.)
 
 -- "and then the tables .. are byte for byte what they were". Proof: Refusals, `refusal-keeps`
 abbrev pub RefusalKeeps : Type 0

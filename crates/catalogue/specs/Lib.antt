@@ -1,5 +1,3 @@
 -- Document 01, "Calls and what they answer", and the three demands.
 pub mod Calls
 pub mod Demands
-pub mod Told
-pub mod ShortCases

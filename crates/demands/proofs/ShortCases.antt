@@ -21,7 +21,7 @@ use Rattle.sheet.specs.Sheet.{numberItem, numberItems, lineItems, recordItem, r
 use Rattle.lent.specs.Lent.{lengths, lentBoth, lentList}
 use Rattle.catalogue.specs.Calls.{planOf, inserting, deleting, anyKit, allKits, writing}
 use Rattle.catalogue.specs.Demands.{run, log, begun, tablesOf}
-use Rattle.catalogue.specs.ShortCases.{inserted, holding, asked, struck, ShortCases, entries, later, desk, replies, DeskExample}
+use Rattle.demands.specs.ShortCases.{inserted, holding, asked, struck, ShortCases, entries, later, desk, replies, DeskExample}
 
 -- opens every definition
 unfoldable opened : Bool

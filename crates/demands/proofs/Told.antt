@@ -27,7 +27,7 @@ use Rattle.sheet.specs.Sheet.{Contents, nodesNeeded}
 use Rattle.lent.specs.Lent.{Tables, lengths, lentList}
 use Rattle.lent.proofs.Lent.{lengths-good}
 use Rattle.catalogue.specs.Calls.{Call, emptyBoth, registerPart, lookUp, showAt, insertKit, findKit, deleteKit, anyWithin, anyContaining, allWithin, allContaining, writeSheet, readSheet, planOf, emptying, inserting, finding, deleting, reading}
-use Rattle.catalogue.specs.Told.{more, told, ToldExactly}
+use Rattle.demands.specs.Told.{more, told, ToldExactly}
 use Rattle.demands.proofs.Model.{tag-order}
 use Rattle.demands.proofs.Brought.{Brought, brought}
 use Rattle.demands.proofs.Sizes.{sizes}

@@ -50,6 +50,6 @@ told slots room m (allContaining l o) = answer (listingOf isContaining l m o)
 told slots room m (writeSheet o) = answer (setDown [] (encode (listedIn m)) o)
 told slots room m (readSheet s) = decide (sheetRefusals s slots room) (length (said (decode s) .kits))
 
--- Proof: crates/demands, Told, `told-exactly`
+-- Proof: proofs/Told, `told-exactly`
 abbrev pub ToldExactly : Type 0
 ToldExactly = (a : Catalogue) (c : Call) → Allowed a → answer (planOf c (tablesOf a)) ≡ told (a .slots) (a .room) (entered a) c

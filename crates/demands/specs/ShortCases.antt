@@ -1,4 +1,4 @@
--- Document 01, "Short cases to prove": "One statement covers this table". Proof: crates/demands, ShortCases, `short-cases`. And the desk's worked
+-- Document 01, "Short cases to prove": "One statement covers this table". Proof: proofs/ShortCases, `short-cases`. And the desk's worked
 -- example, as calls.
 use mathlib.Core.Path.{_≡_}
 use mathlib.Core.List.{List, [], _∷_, _++_, map}
@@ -80,7 +80,7 @@ desk cs = tablesOf (record { slots = 4; room = 6; calls = cs })
 unfoldable pub replies : List Call → Tables → List Reply
 replies cs T = map (λ x. x .1) (log cs T)
 
--- the replies, what b lists, and the bytes that W writes. Proof: crates/demands, ShortCases, `desk-example`
+-- the replies, what b lists, and the bytes that W writes. Proof: proofs/ShortCases, `desk-example`
 abbrev pub DeskExample : Type 0
 DeskExample =
     (replies entries (desk []) ≡ done 1 ∷ (done 2 ∷ (refused 9 1 ∷ (done 3 ∷ (done 3 ∷ (done 0 ∷ (done 1 ∷ (refused 9 9 ∷ (refused 10 0 ∷ [])))))))))
