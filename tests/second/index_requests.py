@@ -69,6 +69,7 @@ def limits():
     yield from table_lengths()
     yield from tables_in_order()
     yield from broken_tables()
+    yield from broken_chains()
     yield from raw_paths()
     yield from list_limits()
     yield from insertions()
@@ -161,6 +162,59 @@ def broken_tables():
     for note, row in tables.items():
         for letter in TABLE_LETTERS:
             yield Request(letter, 6, R=two, N=nodes.words_of(row), L=[2, 1],
+                          P=some_output(letter), O=bytes(60), note=note)
+
+
+# The root's chain is nodes 1, 2, 3; node 1's chain is nodes 4, 5, 6; nodes 7 and 8 are free.
+TWO_CHAINS = [Node(0, 1, 0, 0, 0, 0),
+              Node(0, 4, 2, 1, 1, 11), Node(0, 0, 3, 2, 1, 12), Node(0, 0, 0, 3, 1, 13),
+              Node(1, 0, 5, 1, 2, 14), Node(1, 0, 6, 2, 2, 15), Node(1, 0, 0, 3, 2, 16),
+              FREE, FREE]
+FIRST_CHILD, NEXT = "first_child", "next_sibling"
+
+
+def relinked(*changes):
+    """The two chains with links changed: a node's number, which link, and where it leads."""
+    row = list(TWO_CHAINS)
+    for at, link, to in changes:
+        row[at] = row[at]._replace(**{link: to})
+    return row
+
+
+# Every node is right by itself, and some are on no chain.
+LOST_NODES = {
+    "a chain's first node on no chain": relinked((1, FIRST_CHILD, 5)),
+    "a chain's middle node on no chain": relinked((4, NEXT, 6)),
+    "a chain's last node on no chain": relinked((5, NEXT, 0)),
+    "two nodes that name one next sibling": relinked((1, NEXT, 3)),
+    "a whole chain on no chain": relinked((1, FIRST_CHILD, 0)),
+    "the root's whole chain on no chain": relinked((0, FIRST_CHILD, 0)),
+}
+# Links that lead where no chain may go.
+WRONG_LINKS = {
+    "a chain that runs into its first node": relinked((6, NEXT, 4)),
+    "a chain that runs into its middle node": relinked((6, NEXT, 5)),
+    "a chain that runs into its last node": relinked((6, NEXT, 6)),
+    "two nodes of a chain that are each other's sibling": relinked((5, NEXT, 4)),
+    "two nodes on no chain that are each other's sibling": relinked(
+        (1, FIRST_CHILD, 6), (5, NEXT, 4)),
+    "a node on two chains": relinked((2, FIRST_CHILD, 4)),
+    "a chain into another's children": relinked((3, NEXT, 5)),
+    "a chain that ends in its parent": relinked((6, NEXT, 1)),
+    "a chain that ends in a child of the root": relinked((6, NEXT, 3)),
+    "a chain that ends in the root, which has a sibling": relinked((0, NEXT, 1)),
+    "a chain that ends in a free node": relinked((6, NEXT, 7)),
+    "a chain that ends behind the table": relinked((6, NEXT, len(TWO_CHAINS))),
+    "a free node with a chain": relinked((7, FIRST_CHILD, 4)),
+    "a free node with a next sibling": relinked((7, NEXT, 4)),
+}
+
+
+def broken_chains():
+    """The two chains, sound and broken, for every call that looks at a table."""
+    for note, row in {"two chains": TWO_CHAINS, **LOST_NODES, **WRONG_LINKS}.items():
+        for letter in TABLE_LETTERS:
+            yield Request(letter, 6, R=parts_register(3), N=nodes.words_of(row), L=[1, 2],
                           P=some_output(letter), O=bytes(60), note=note)
 
 

@@ -8,7 +8,7 @@ import struct
 
 from . import index, index_requests, nodes
 from .chance import Chance
-from .nodes import FREE, MOST_NODES, NODE_WORDS
+from .nodes import MOST_NODES, NODE_WORDS
 from .register import MOST_SLOTS, numbers_of
 
 SEED = 741
@@ -58,6 +58,7 @@ def limits():
         yield 0, 2, [0] * length
         yield 0, 0, [1] * length
     yield from tables_of(index_requests.broken_tables())
+    yield from tables_of(index_requests.broken_chains())
     yield from tables_of(index_requests.raw_paths())
     # many numbers of parts, and none
     yield 0, 300, list(index_requests.raw_path((1, 2)))
@@ -147,21 +148,3 @@ def stored_output(data, _letters):
         said.append(answer(first, last, list(struct.unpack_from(">%dH" % count, data, at))))
         at += 2 * count
     return b"".join(said)
-
-
-def full_table():
-    """A sound table of 4,096 nodes, all used."""
-    return list(index_requests.large_table("pairs"))
-
-
-def small_table():
-    """A sound table of 64 nodes, all used: pairs of parts and their beginnings."""
-    rows = [(first, second) for first in range(1, 8) for second in range(first, first + 9)]
-    kits, words = [], [0] * 64 * NODE_WORDS
-    for tag, row in enumerate(rows, start=1):
-        if index.missing_nodes(words, row) <= index.free_count(words):
-            words = index.inserted(words, row, tag)
-            kits.append(row)
-    if nodes.nodes_of(words).count(FREE):
-        raise ValueError("a node is free")
-    return words

@@ -21,7 +21,7 @@ use Rattle.kits.specs.Kits.{mostUnits, mostPlace, units, GoodRow, lineValue, li
 use Rattle.nodes.specs.Sound.{Sound}
 use Rattle.nodes.specs.Held.{Kit, held, tagIn, tagsOf, firstTag, beginnings, addNew, allBeginnings}
 use Rattle.nodes.proofs.Lists.{zero-or}
-use Rattle.nodes.proofs.Sorted.{Every, none, also, every-append, allb-mem}
+use Rattle.nodes.proofs.Sorted.{Every, none, also, every-append, keep-short, allb-mem}
 use Rattle.nodes.proofs.Decided.{sound-exactly}
 use Rattle.nodes.proofs.Listing.{tag-from}
 use Rattle.linking.specs.Links.{childWith}
@@ -80,11 +80,6 @@ tags-long : (ks : List Kit) → length (tagsOf ks) ≡ length ks
 unfolding tagsOf
 tags-long [] = refl
 tags-long (k ∷ ks) = ap suc (tags-long ks)
-
-keep-long : {A : Type 0} (p : A → Bool) (xs : List A) → length (keep p xs) ≤ length xs
-unfolding keep
-keep-long p [] = omega arith
-keep-long p (x ∷ xs) = by-cond (λ l. length l ≤ suc (length xs)) (p x) (x ∷ keep p xs) (keep p xs) (λ _. omega (arith, keep-long p xs)) (λ _. omega (arith, keep-long p xs))
 
 -- Items one behind the other
 concat-long : {A : Type 0} (f : A → List ℕ) (b : ℕ) (xs : List A) → ((x : A) → List·Memᴰ x xs → length (f x) ≤ b) → length (concat (map f xs)) ≤ length xs * b
@@ -251,7 +246,7 @@ module _ (R N : List ℕ) (words : (i : ℕ) → getD N i 0 < twoLimit) where
 
   all-small : (question : Question) (l o : List ℕ) → valueOf (answer (allKits question l (tables R N) o)) < limit
   unfolding allKits allOf fitting
-  all-small question l o = down-small (lentList T l) _ o (list-plain T l) (λ e. omega (arith, tags-long (fitting question l N), keep-long (question (units l)) (held N), kits-here (list-lent l e)))
+  all-small question l o = down-small (lentList T l) _ o (list-plain T l) (λ e. omega (arith, tags-long (fitting question l N), keep-short (question (units l)) (held N), kits-here (list-lent l e)))
 
   emptying-small : valueOf (answer (emptying (tables R N))) < limit
   unfolding answer emptying
