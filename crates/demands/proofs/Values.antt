@@ -23,7 +23,7 @@ use Rattle.nodes.specs.Held.{Kit, held, tagIn, tagsOf, firstTag, beginnings, ad
 use Rattle.nodes.proofs.Lists.{zero-or}
 use Rattle.nodes.proofs.Sorted.{Every, none, also, every-append, keep-short, allb-mem}
 use Rattle.nodes.proofs.Decided.{sound-exactly}
-use Rattle.nodes.proofs.Listing.{tag-from}
+use Rattle.nodes.proofs.Listing.{tags-long, tag-from}
 use Rattle.linking.specs.Links.{childWith}
 use Rattle.growing.specs.Enter.{lacks}
 use Rattle.index.specs.Index.{entryRefusals, missingRefusals}
@@ -75,11 +75,6 @@ first-small : (B : ℕ) (ks : List Kit) → 0 < B → ((k : Kit) → List·Mem�
 unfolding firstTag
 first-small B [] h f = h
 first-small B (k ∷ ks) h f = f k (List·Memᴰ·head refl)
-
-tags-long : (ks : List Kit) → length (tagsOf ks) ≡ length ks
-unfolding tagsOf
-tags-long [] = refl
-tags-long (k ∷ ks) = ap suc (tags-long ks)
 
 -- Items one behind the other
 concat-long : {A : Type 0} (f : A → List ℕ) (b : ℕ) (xs : List A) → ((x : A) → List·Memᴰ x xs → length (f x) ≤ b) → length (concat (map f xs)) ≤ length xs * b
