@@ -10,7 +10,7 @@ use lib.Dec.{ltb, leb}
 use borrow.Author.Tests.{leb-true, leb-false, lt-ltb, le-ltb, eq-eqb, ne-eqb}
 use Rattle.ground.specs.Lists.{isZero}
 use Rattle.ground.specs.Laid.{zeroed}
-use Rattle.ground.specs.Calls.{Case, given, Plan, plan, Reply, done, refused, isRefused, decide, answer, memory, Promise, setDown, Outputs, setBoth}
+use Rattle.ground.specs.Calls.{Case, given, plan, Reply, done, refused, isRefused, decide, answer, Promise, setDown, Outputs, setBoth}
 use Rattle.ground.proofs.Calls.{promise-first, promise-front, promise-behind, promise-part, promise-refused, promise-done, first-refuses, first-passes, whole-refuses, whole-passes, set-down-behind, set-both-behind}
 use Rattle.kits.specs.Kits.{mostUnits, mostPlace, units, goodList, GoodRow, listFaults}
 use Rattle.kits.specs.Rows.{rowOf, unitsIn}
@@ -22,7 +22,6 @@ use Rattle.nodes.specs.Held.{Kit, held, tagIn}
 use Rattle.nodes.proofs.Held.{held-good}
 use Rattle.nodes.proofs.Listing.{tag-none}
 use Rattle.growing.specs.Enter.{enter, lacks}
-use Rattle.pruning.specs.Strike.{strike}
 use Rattle.index.specs.Index.{entryRefusals, insertingRow, missingRefusals, findingRow, deletingRow}
 use Rattle.questions.specs.Questions.{anyOf, allOf}
 use Rattle.shortfalls.specs.Shortfalls.{mostShort, almostTags, almostShorts, listAlmost}

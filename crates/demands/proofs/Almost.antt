@@ -1,13 +1,13 @@
 -- Request 1 from any list of calls: the kits that a bin almost fills, in terms of what the accepted calls left.
 use mathlib.Core.Path.{_≡_, sym, ap, subst, _∙_}
-use mathlib.Core.Bool.{Bool, _||_}
+use mathlib.Core.Bool.{_||_}
 use mathlib.Core.List.{List, [], _∷_, _++_, append-assoc, List·Memᴰ}
 use Prim.Native.Nat.{ℕ, _≤_}
 use native.Mathlib.Omega.{arith}
 use lib.ListN.{length, drop, length-map}
 use lib.Dec.{ltb}
 use borrow.Author.Tests.{le-ltb}
-use Rattle.ground.specs.Calls.{Case, given, done, decide, answer, memory, Promise, withRoom, Outputs, outputs, setBoth}
+use Rattle.ground.specs.Calls.{Case, given, done, decide, answer, memory, Promise, Outputs, outputs, setBoth}
 use Rattle.ground.specs.Laid.{laid}
 use Rattle.ground.proofs.Calls.{decide-behind, set-both-done, set-both-behind}
 use Rattle.ground.proofs.Laid.{laid-front}

@@ -1,14 +1,14 @@
 -- "Each answer is a number (0 for done) and a value below 2^32": of every call, refused or done.
 use mathlib.Core.Path.{_≡_, refl, ap, _∙_}
 use mathlib.Core.Logic.{⊎-elim}
-use mathlib.Core.Bool.{Bool, true, false}
+use mathlib.Core.Bool.{true, false}
 use mathlib.Core.List.{List, [], _∷_, _++_, map, append-assoc, append-nil, List·Memᴰ, List·Memᴰ·head, List·Memᴰ·tail}
 use Prim.Native.Nat.{ℕ, suc, _+_, _*_, _≤_, _<_}
 use native.Mathlib.Nat.{suc-mul}
 use native.Mathlib.Omega.{arith}
 use lib.ListN.{length, getD, length-append, length-map}
 use borrow.Author.Tests.{not-false, ltb-false}
-use Rattle.ground.specs.Lists.{anyb, concat, keep, eqList, isZero}
+use Rattle.ground.specs.Lists.{anyb, concat, eqList, isZero}
 use Rattle.ground.specs.Calls.{Case, Reply, done, refused, isRefused, valueOf, decide, answer, setDown, Outputs, setBoth}
 use Rattle.ground.proofs.Laws.{by-cond}
 use Rattle.ground.proofs.Calls.{whole-passes, done-passes}

@@ -1,4 +1,4 @@
--- Worked examples by computation: a surplus of one part pays for no other.
+-- Worked examples by computation: a surplus of one part pays for no other, and a part that is short by three counts three.
 use mathlib.Core.Path.{_≡_, refl}
 use mathlib.Core.List.{[], _∷_}
 use Rattle.ground.specs.Lists.{from}
@@ -11,6 +11,12 @@ surplus : shortfall (1 ∷ (1 ∷ (3 ∷ (3 ∷ (3 ∷ (3 ∷ (3 ∷ []))))))) (
 unfolding shortfall lacking sumOver from count
 surplus = refl
 
+-- three of part 1 and none of it
+three : shortfall (2 ∷ []) (1 ∷ (1 ∷ (1 ∷ []))) ≡ 3
+unfolding shortfall lacking sumOver from count
+three = refl
+
+-- the first, from lists
 by-lines : linesShort (1 ∷ (2 ∷ (3 ∷ (5 ∷ [])))) (1 ∷ (3 ∷ (2 ∷ (1 ∷ [])))) ≡ 2
 unfolding linesShort quantity
 by-lines = refl

@@ -1,23 +1,22 @@
 -- What is promised, in the request's words: which kits answer, when those are the kits within the bin, how they grow with d, and that the two outputs
 -- are in step.
-use mathlib.Core.Path.{_≡_, refl, sym, _∙_}
+use mathlib.Core.Path.{_≡_, refl, sym}
 use mathlib.Core.Logic.{_↔_}
 use mathlib.Core.Bool.{true}
 use mathlib.Core.List.{List, [], _∷_, map, List·Memᴰ, List·Memᴰ·head, List·Memᴰ·tail}
 use Prim.Native.Nat.{ℕ, zero, suc, _≤_, _<_}
 use native.Mathlib.Omega.{arith}
-use lib.ListN.{length, getD, replicate, length-map}
+use lib.ListN.{length, getD, replicate}
 use borrow.Author.Tests.{leb-true, le-leb}
 use Rattle.ground.specs.Lists.{keep}
 use Rattle.ground.proofs.Laws.{same-cases}
-use Rattle.kits.specs.Kits.{mostPlace, units, Within, GoodRow}
+use Rattle.kits.specs.Kits.{mostPlace, Within, GoodRow}
 use Rattle.kits.proofs.Inclusion.{includes-within, within-includes}
 use Rattle.kits.proofs.Units.{row-rises, row-upto}
 use Rattle.nodes.specs.Held.{Kit, tagsOf}
 use Rattle.nodes.proofs.Sorted.{keep-same, keep-all, keep-twice, keep-mem}
-use Rattle.nodes.proofs.Listing.{tags-long}
-use Rattle.questions.specs.Questions.{isWithin, fitting, allOf}
-use Rattle.shortfalls.specs.Shortfalls.{mostShort, shortfall, shortOf, isAlmost, almostTags, almostShorts}
+use Rattle.questions.specs.Questions.{isWithin}
+use Rattle.shortfalls.specs.Shortfalls.{mostShort, shortfall, shortOf, isAlmost}
 use Rattle.shortfalls.proofs.Sums.{short-within, within-short}
 use Rattle.shortfalls.proofs.Along.{short-few}
 
@@ -87,7 +86,3 @@ in-step bin (k ∷ ks) zero h = record { kit = k; in-list = List·Memᴰ·head r
 in-step bin (k ∷ ks) (suc i) h =
     let r = in-step bin ks i (omega arith) in
     record { kit = r .kit; in-list = List·Memᴰ·tail (r .in-list); bears = r .bears; lacks = r .lacks }
-
-pub as-many-shorts : (d : ℕ) (l N : List ℕ) → length (almostShorts d l N) ≡ length (almostTags d l N)
-unfolding almostShorts allOf
-as-many-shorts d l N = length-map (fitting (isAlmost d) l N) (shortOf (units l)) ∙ sym (tags-long (fitting (isAlmost d) l N))
