@@ -212,7 +212,9 @@ AllAnswers = (a : Catalogue) (question : Question) (l o : List ℕ) → Allowed 
 -- above of every question holds of it, the fixed order and each kit once too.
 -- "exactly those kits whose shortfall is at most d". Proof: Almost, `answering-almost`
 abbrev pub AnsweringAlmost : Type 0
-AnsweringAlmost = (d : ℕ) (bin : List ℕ) (m : Contents) (k : Kit) → List·Memᴰ k (answering (isAlmost d) bin m) ↔ (List·Memᴰ k (m .kits) × (shortfall (units bin) (k .row) ≤ d))
+AnsweringAlmost =
+    (d : ℕ) (bin : List ℕ) (m : Contents) (k : Kit) →
+    List·Memᴰ k (answering (isAlmost d) bin m) ↔ (List·Memᴰ k (m .kits) × (shortfall (units bin) (k .row) ≤ d))
 
 -- "with the shortfall of each in a second lent output"
 unfoldable pub shortsOf : List ℕ → List Kit → List ℕ
@@ -227,16 +229,23 @@ pub record OfOneKit (bin : List ℕ) (ks : List Kit) (t s : ℕ) : Type 0 where
 
 -- place by place of the same kit. Proof: Almost, `shown-in-step`
 abbrev pub ShownInStep : Type 0
-ShownInStep = (bin : List ℕ) (ks : List Kit) (i : ℕ) → i < length ks → OfOneKit bin ks (getD (tagsOf ks) i 0) (getD (shortsOf bin ks) i 0)
+ShownInStep =
+    (bin : List ℕ) (ks : List Kit) (i : ℕ) → i < length ks →
+    OfOneKit bin ks (getD (tagsOf ks) i 0) (getD (shortsOf bin ks) i 0)
 
 -- with d = 0 they are the kits within the bin, and every shortfall is 0. Proof: Almost, `zero-is-within`
 abbrev pub ZeroIsWithin : Type 0
-ZeroIsWithin = (a : Catalogue) (bin : List ℕ) → Allowed a → let ks = answering (isAlmost 0) bin (entered a) in (ks ≡ answering isWithin bin (entered a)) × (shortsOf bin ks ≡ replicate (length ks) 0)
+ZeroIsWithin =
+    (a : Catalogue) (bin : List ℕ) → Allowed a →
+    let ks = answering (isAlmost 0) bin (entered a) in
+    (ks ≡ answering isWithin bin (entered a)) × (shortsOf bin ks ≡ replicate (length ks) 0)
 
 -- with a greater d nothing leaves the listing: what is listed for d is what of the listing for e has a shortfall of at most d. Proof: Almost,
 -- `nothing-leaves`
 abbrev pub NothingLeaves : Type 0
-NothingLeaves = (d e : ℕ) (bin : List ℕ) (m : Contents) → d ≤ e → answering (isAlmost d) bin m ≡ keep (isAlmost d (units bin)) (answering (isAlmost e) bin m)
+NothingLeaves =
+    (d e : ℕ) (bin : List ℕ) (m : Contents) → d ≤ e →
+    answering (isAlmost d) bin m ≡ keep (isAlmost d (units bin)) (answering (isAlmost e) bin m)
 
 -- with d = 64 every kit is listed. Proof: Almost, `most-is-all`
 abbrev pub MostIsAll : Type 0
@@ -244,14 +253,25 @@ MostIsAll = (a : Catalogue) (bin : List ℕ) → Allowed a → answering (isAlmo
 
 -- the reply, and both outputs afterwards. Proof: Almost, `almost-answers`
 abbrev pub almostOf : ℕ → List ℕ → Contents → Outputs → Plan Outputs
-almostOf d bin m o = let ks = answering (isAlmost d) bin m in setBoth (listFaults (length (m .parts)) bin ++ (given (ltb mostShort d) 14 0 ∷ [])) (tagsOf ks) (shortsOf bin ks) o
+almostOf d bin m o =
+    let ks = answering (isAlmost d) bin m in
+    setBoth (listFaults (length (m .parts)) bin ++ (given (ltb mostShort d) 14 0 ∷ [])) (tagsOf ks) (shortsOf bin ks) o
 
 abbrev pub AlmostAnswers : Type 0
-AlmostAnswers = (a : Catalogue) (d : ℕ) (bin : List ℕ) (o : Outputs) → Allowed a → (answer (almostKits d bin (tablesOf a) o) ≡ answer (almostOf d bin (entered a) o)) × (memory (almostKits d bin (tablesOf a) o) o ≡ memory (almostOf d bin (entered a) o) o)
+AlmostAnswers =
+    (a : Catalogue) (d : ℕ) (bin : List ℕ) (o : Outputs) → Allowed a →
+    (answer (almostKits d bin (tablesOf a) o) ≡ answer (almostOf d bin (entered a) o))
+    × (memory (almostKits d bin (tablesOf a) o) o ≡ memory (almostOf d bin (entered a) o) o)
 
 -- with room, what lies behind the answer stays, in both. Proof: Almost, `almost-shows`
 abbrev pub AlmostShows : Type 0
-AlmostShows = (a : Catalogue) (d : ℕ) (bin o p : List ℕ) → Allowed a → decide (listFaults (length (entered a .parts)) bin) 0 ≡ done 0 → d ≤ mostShort → let ks = answering (isAlmost d) bin (entered a) in length ks ≤ length o → length ks ≤ length p → (answer (almostKits d bin (tablesOf a) (outputs o p)) ≡ done (length ks)) × (memory (almostKits d bin (tablesOf a) (outputs o p)) (outputs o p) ≡ outputs (tagsOf ks ++ drop (length ks) o) (shortsOf bin ks ++ drop (length ks) p))
+AlmostShows =
+    (a : Catalogue) (d : ℕ) (bin o p : List ℕ) → Allowed a →
+    decide (listFaults (length (entered a .parts)) bin) 0 ≡ done 0 → d ≤ mostShort →
+    let ks = answering (isAlmost d) bin (entered a) in
+    length ks ≤ length o → length ks ≤ length p →
+    (answer (almostKits d bin (tablesOf a) (outputs o p)) ≡ done (length ks))
+    × (memory (almostKits d bin (tablesOf a) (outputs o p)) (outputs o p) ≡ outputs (tagsOf ks ++ drop (length ks) o) (shortsOf bin ks ++ drop (length ks) p))
 
 -- DEMAND 3
 -- s is the sheet that a catalogue writes at the start of the output o, "with enough room to write its sheet"

@@ -92,7 +92,9 @@ unfolding shortsOf
 shorts-long bin ks = length-map ks (shortOf (units bin))
 
 module _ (cs : List Case) (bin : List ℕ) (ks : List Kit) (o p : List ℕ) (f : length ks ≤ length o) (g : length ks ≤ length p) where
-  shown-both : decide cs 0 ≡ done 0 → Promise (setBoth cs (tagsOf ks) (shortsOf bin ks) (outputs o p)) (outputs o p) (done (length ks)) (outputs (tagsOf ks ++ drop (length ks) o) (shortsOf bin ks ++ drop (length ks) p))
+  shown-both : decide cs 0 ≡ done 0 →
+      Promise (setBoth cs (tagsOf ks) (shortsOf bin ks) (outputs o p)) (outputs o p)
+      (done (length ks)) (outputs (tagsOf ks ++ drop (length ks) o) (shortsOf bin ks ++ drop (length ks) p))
   shown-both e =
       let t = tags-long ks in
       let s = shorts-long bin ks in
@@ -107,5 +109,6 @@ near-enough cs d e h = decide-behind cs (farFrom d) 0 0 e ∙ rw (le-ltb mostSho
 pub almost-shows : AlmostShows
 almost-shows a d bin o p h good near f g =
     let b = brought a h in
-    let s = shown-both (listFaults (length (entered a .parts)) bin ++ farFrom d) bin (answering (isAlmost d) bin (entered a)) o p f g (near-enough (listFaults (length (entered a .parts)) bin) d good near) in
+    let cs = listFaults (length (entered a .parts)) bin in
+    let s = shown-both (cs ++ farFrom d) bin (answering (isAlmost d) bin (entered a)) o p f g (near-enough cs d good near) in
     (almost-answer b d bin (outputs o p) ∙ sym (s .answers), almost-memory b d bin (outputs o p) ∙ sym (s .lent))

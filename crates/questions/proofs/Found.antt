@@ -74,7 +74,8 @@ module _ {parts : ℕ} {N : List ℕ} (S : Shape parts N) (test : List ℕ → B
       (λ h. found-none)
       (λ i u c n h.
       let p = used-pos (climb S) i u in
-      let e : (s : List ℕ) → test (rowOf N i ++ s) ≡ false = λ s. ap test (ap (λ r. r ++ s) (row-step (climb S) i u) ∙ append-assoc (rowOf N (parent N i)) (label N i ∷ []) s) ∙ h p (label N i) s (omega arith) (S .good i u .place) in
+      let e : (s : List ℕ) → test (rowOf N i ++ s) ≡ false =
+      λ s. ap test (ap (λ r. r ++ s) (row-step (climb S) i u) ∙ append-assoc (rowOf N (parent N i)) (label N i ∷ []) s) ∙ h p (label N i) s (omega arith) (S .good i u .place) in
       let below : foundFrom test N (child N i) ≡ [] = c (λ q x s g b. ap (λ r. test (r ++ (x ∷ s))) (ap (rowOf N) (S .head i (u .inside) .back q)) ∙ e (x ∷ s)) in
       let behind : foundFrom test N (next N i) ≡ [] = n (λ q x s g b. ap (λ r. test (r ++ (x ∷ s))) (ap (rowOf N) (S .good i u .same q)) ∙ h p x s (omega (arith, S .good i u .greater q)) b) in
       rw (found-step i u, own-dead i e, below, behind))
@@ -95,7 +96,9 @@ unfolding keep kitAt answers onRow
 walk-kits test N [] = refl
 walk-kits test N (x ∷ xs) = go (test (rowOf N x)) (tagged N x) refl (walk-kits test N xs)
   where
-    go : (b c : Bool) → test (rowOf N x) ≡ b → keep (onRow test) (map (kitAt N) (keep (tagged N) xs)) ≡ map (kitAt N) (keep (answers test N) xs) → keep (onRow test) (map (kitAt N) (cond c (x ∷ keep (tagged N) xs) (keep (tagged N) xs))) ≡ map (kitAt N) (cond (b && c) (x ∷ keep (answers test N) xs) (keep (answers test N) xs))
+    go : (b c : Bool) → test (rowOf N x) ≡ b →
+        keep (onRow test) (map (kitAt N) (keep (tagged N) xs)) ≡ map (kitAt N) (keep (answers test N) xs) →
+        keep (onRow test) (map (kitAt N) (cond c (x ∷ keep (tagged N) xs) (keep (tagged N) xs))) ≡ map (kitAt N) (cond (b && c) (x ∷ keep (answers test N) xs) (keep (answers test N) xs))
     go true true e h = rw e (ap (_∷_ (kitAt N x)) h)
     go true false e h = h
     go false true e h = rw e h

@@ -122,11 +122,16 @@ module _ {N Q : List ℕ} {d at : ℕ} {p : Passed} {l t : ℕ} (v : Seen N Q d 
             let behind = foundFrom (almost Q d) N m in
             omega (arith, ap length parts-are, length-append own (below ++ behind), length-append below behind, ap length own-tag, length-map own (tag N))
 
-        pub set-down : {o o₁ o₂ o₃ z z₁ z₂ z₃ : List ℕ} {n a b r : ℕ} → WroteBoth o o₁ z z₁ n a (someTag u) (ifTag u (q .short)) → WroteNodes Q N o₁ o₂ z₁ z₂ a b (foundFrom (almost Q d) N k) → WroteNodes Q N o₂ o₃ z₂ z₃ b r (foundFrom (almost Q d) N m) → WroteNodes Q N o o₃ z z₃ n r (foundFrom (almost Q d) N at)
+        pub set-down : {o o₁ o₂ o₃ z z₁ z₂ z₃ : List ℕ} {n a b r : ℕ} →
+            WroteBoth o o₁ z z₁ n a (someTag u) (ifTag u (q .short)) →
+            WroteNodes Q N o₁ o₂ z₁ z₂ a b (foundFrom (almost Q d) N k) →
+            WroteNodes Q N o₂ o₃ z₂ z₃ b r (foundFrom (almost Q d) N m) →
+            WroteNodes Q N o o₃ z z₃ n r (foundFrom (almost Q d) N at)
         set-down x y w =
             let below = foundFrom (almost Q d) N k in
             let behind = foundFrom (almost Q d) N m in
-            nodes-same (tag N) (shortAt Q N) parts-are (nodes-on (tag N) (shortAt Q N) (keep (answers (almost Q d) N) (at ∷ [])) (below ++ behind) (both-same own-tag own-short x) (nodes-on (tag N) (shortAt Q N) below behind y w))
+            nodes-same (tag N) (shortAt Q N) parts-are
+            (nodes-on (tag N) (shortAt Q N) (keep (answers (almost Q d) N) (at ∷ [])) (below ++ behind) (both-same own-tag own-short x) (nodes-on (tag N) (shortAt Q N) below behind y w))
 
 -- The root: the empty row has no shortfall
 module _ {N : List ℕ} (Q : List ℕ) (d : ℕ) (S : Shape mostPlace N) (h : d ≤ mostShort) where
@@ -166,5 +171,10 @@ module _ {N : List ℕ} (Q : List ℕ) (d : ℕ) (S : Shape mostPlace N) (h : d 
         let own = keep (answers (almost Q d) N) (0 ∷ []) in
         omega (arith, ap length root-parts, length-append own (foundFrom (almost Q d) N k), ap length root-tag, length-map own (tag N), found-few S (almost Q d), S .sized .most)
 
-    pub root-set : {o o₁ o₂ z z₁ z₂ : List ℕ} {a r : ℕ} → WroteBoth o o₁ z z₁ 0 a (someTag u) (ifTag u 0) → WroteNodes Q N o₁ o₂ z₁ z₂ a r (foundFrom (almost Q d) N k) → WroteNodes Q N o o₂ z z₂ 0 r (foundIn (almost Q d) N)
-    root-set x y = nodes-same (tag N) (shortAt Q N) root-parts (nodes-on (tag N) (shortAt Q N) (keep (answers (almost Q d) N) (0 ∷ [])) (foundFrom (almost Q d) N k) (both-same root-tag root-word x) y)
+    pub root-set : {o o₁ o₂ z z₁ z₂ : List ℕ} {a r : ℕ} →
+        WroteBoth o o₁ z z₁ 0 a (someTag u) (ifTag u 0) →
+        WroteNodes Q N o₁ o₂ z₁ z₂ a r (foundFrom (almost Q d) N k) →
+        WroteNodes Q N o o₂ z z₂ 0 r (foundIn (almost Q d) N)
+    root-set x y =
+        nodes-same (tag N) (shortAt Q N) root-parts
+        (nodes-on (tag N) (shortAt Q N) (keep (answers (almost Q d) N) (0 ∷ [])) (foundFrom (almost Q d) N k) (both-same root-tag root-word x) y)

@@ -25,7 +25,10 @@ both-same e f w = record { one = wrote-same e (w .one); two = wrote-same f (w .t
 
 -- Words of nodes, one list of nodes behind the other
 module _ (f g : ℕ → ℕ) where
-  pub nodes-on : (is js : List ℕ) {o o′ o″ p p′ p″ : List ℕ} {n k r : ℕ} → WroteBoth o o′ p p′ n k (map f is) (map g is) → WroteBoth o′ o″ p′ p″ k r (map f js) (map g js) → WroteBoth o o″ p p″ n r (map f (is ++ js)) (map g (is ++ js))
+  pub nodes-on : (is js : List ℕ) {o o′ o″ p p′ p″ : List ℕ} {n k r : ℕ} →
+      WroteBoth o o′ p p′ n k (map f is) (map g is) →
+      WroteBoth o′ o″ p′ p″ k r (map f js) (map g js) →
+      WroteBoth o o″ p p″ n r (map f (is ++ js)) (map g (is ++ js))
   nodes-on is js a b = both-same (map-append f is js) (map-append g is js) (both-on a b)
 
   pub nodes-same : {o o′ p p′ : List ℕ} {n r : ℕ} {is js : List ℕ} → is ≡ js → WroteBoth o o′ p p′ n r (map f js) (map g js) → WroteBoth o o′ p p′ n r (map f is) (map g is)

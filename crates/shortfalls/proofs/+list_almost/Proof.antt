@@ -51,7 +51,10 @@ R t = (
 )
 
 module _ (t : ℕ) where
-  v : (c : lts.After-label-at (R t) (At t) own.Post) → Seen (c .before .before .before .before .before .args .nodes .now) (c .before .before .before .before .before .args .bin .now) (c .before .before .before .before .before .args .d) (c .before .before .before .before .before .args .at) (c .before .before .before .before .before .args .p) (c .label-at .result) t
+  -- what is known once the label is read
+  v : (c : lts.After-label-at (R t) (At t) own.Post) →
+      let a = c .before .before .before .before .before .args in
+      Seen (a .nodes .now) (a .bin .now) (a .d) (a .at) (a .p) (c .label-at .result) t
   v c =
       let start = c .before .before .before .before .before in
       record { knows = start .pre .1 .0; measured = start .pre .0; node = c .before .if1 .left; l-is = c .label-at .ensures }
@@ -77,7 +80,9 @@ module _ (t : ℕ) where
       let at-pass = at-next-at .before in
       let p6 = at-pass .before in
       let start = p6 .before .before .before .before .before in
-      let h = to-next (v (p6)) (at-next-at .next-at .ensures .0) in (h .0, (h .1, omega (arith, start .pre .1 .1, ap length (left-out (v (p6)) (at-pass .pass .ensures) (at-if2 .if2 .taken) (at-next-at .next-at .ensures .0)))))
+      let h = to-next (v p6) (at-next-at .next-at .ensures .0) in
+      let same = left-out (v p6) (at-pass .pass .ensures) (at-if2 .if2 .taken) (at-next-at .next-at .ensures .0) in
+      (h .0, (h .1, omega (arith, start .pre .1 .1, ap length same)))
 
   same-length : lts.Need-same-length (R t) (At t) own.Post
   same-length c = c .before .before .before .before .list-almost .kept .1 .1 .0
@@ -93,12 +98,13 @@ module _ (t : ℕ) where
       let at-pass = at-next-at .before in
       let p11 = at-pass .before in
       let start = p11 .before .before .before .before .before in
-      nodes-same (tag (start .args .nodes .now)) (shortAt (start .args .bin .now) (start .args .nodes .now)) (left-out (v (p11)) (at-pass .pass .ensures) (at-if2 .if2 .taken) (at-next-at .next-at .ensures .0)) (at-list-almost .list-almost .ensures)
+      nodes-same (tag (start .args .nodes .now)) (shortAt (start .args .bin .now) (start .args .nodes .now))
+      (left-out (v p11) (at-pass .pass .ensures) (at-if2 .if2 .taken) (at-next-at .next-at .ensures .0)) (at-list-almost .list-almost .ensures)
 
   tag-at-requires : lts.Need-tag-at-requires (R t) (At t) own.Post
   tag-at-requires c κs =
       let p6 = c .before .before .before .before .before .before in
-      in-table (v (p6))
+      in-table (v p6)
 
   put-both-requires : lts.Need-put-both-requires (R t) (At t) own.Post
   put-both-requires c κs =
@@ -106,12 +112,12 @@ module _ (t : ℕ) where
       let at-pass = at-if2 .before .before .before in
       let p7 = at-pass .before in
       let start = p7 .before .before .before .before .before in
-      omega (arith, start .pre .1 .1, room (v (p7)) (at-pass .pass .ensures) (at-if2 .if2 .left) refl refl (c .tag-at .ensures))
+      omega (arith, start .pre .1 .1, room (v p7) (at-pass .pass .ensures) (at-if2 .if2 .left) refl refl (c .tag-at .ensures))
 
   child-at-requires : lts.Need-child-at-requires (R t) (At t) own.Post
   child-at-requires c κs =
       let p14 = c .before .before .before .before .before .before .before .before .before .before .before .before .before .before in
-      in-table (v (p14))
+      in-table (v p14)
 
   list-almost-requires-2 : lts.Need-list-almost-requires-2 (R t) (At t) own.Post
   list-almost-requires-2 c κs =
@@ -121,7 +127,9 @@ module _ (t : ℕ) where
       let at-pass = at-if2 .before .before .before in
       let p15 = at-pass .before in
       let start = p15 .before .before .before .before .before in
-      let h = to-child (v (p15)) (at-pass .pass .ensures) (at-if2 .if2 .left) (c .child-at .ensures .0) in (h .0, (h .1, omega (arith, start .pre .1 .1, at-put-both .put-both .ensures .one .ends, room (v (p15)) (at-pass .pass .ensures) (at-if2 .if2 .left) (c .child-at .ensures .0) refl (at-tag-at .tag-at .ensures))))
+      let h = to-child (v p15) (at-pass .pass .ensures) (at-if2 .if2 .left) (c .child-at .ensures .0) in
+      let many = room (v p15) (at-pass .pass .ensures) (at-if2 .if2 .left) (c .child-at .ensures .0) refl (at-tag-at .tag-at .ensures) in
+      (h .0, (h .1, omega (arith, start .pre .1 .1, at-put-both .put-both .ensures .one .ends, many)))
 
   list-almost-requires-3 : lts.Need-list-almost-requires-3 (R t) (At t) own.Post
   list-almost-requires-3 c κs =
@@ -134,7 +142,11 @@ module _ (t : ℕ) where
       let at-pass = at-next-at .before in
       let p22 = at-pass .before in
       let start = p22 .before .before .before .before .before in
-      let h = to-next (v (p22)) (at-next-at .next-at .ensures .0) in (h .0, (h .1, omega (arith, start .pre .1 .1, at-put-both .put-both .ensures .one .ends, at-list-almost2 .list-almost2 .ensures .one .ends, length-map (foundFrom (almost (start .args .bin .now) (start .args .d)) (start .args .nodes .now) (at-child-at .child-at .result)) (tag (start .args .nodes .now)), room (v (p22)) (at-pass .pass .ensures) (at-if2 .if2 .left) (at-child-at .child-at .ensures .0) (at-next-at .next-at .ensures .0) (at-tag-at .tag-at .ensures))))
+      let h = to-next (v p22) (at-next-at .next-at .ensures .0) in
+      let below = foundFrom (almost (start .args .bin .now) (start .args .d)) (start .args .nodes .now) (at-child-at .child-at .result) in
+      let many = room (v p22) (at-pass .pass .ensures) (at-if2 .if2 .left) (at-child-at .child-at .ensures .0) (at-next-at .next-at .ensures .0) (at-tag-at .tag-at .ensures) in
+      let own = at-put-both .put-both .ensures .one .ends in
+      (h .0, (h .1, omega (arith, start .pre .1 .1, own, at-list-almost2 .list-almost2 .ensures .one .ends, length-map below (tag (start .args .nodes .now)), many)))
 
   same-length-3 : lts.Need-same-length-3 (R t) (At t) own.Post
   same-length-3 c =
@@ -161,7 +173,8 @@ module _ (t : ℕ) where
       let at-next-at = at-if2 .before .before in
       let at-pass = at-next-at .before in
       let p27 = at-pass .before in
-      set-down (v (p27)) (at-pass .pass .ensures) (at-if2 .if2 .left) (at-child-at .child-at .ensures .0) (at-next-at .next-at .ensures .0) (at-tag-at .tag-at .ensures) (at-put-both .put-both .ensures) (at-list-almost2 .list-almost2 .ensures) (at-list-almost3 .list-almost3 .ensures)
+      set-down (v p27) (at-pass .pass .ensures) (at-if2 .if2 .left) (at-child-at .child-at .ensures .0) (at-next-at .next-at .ensures .0) (at-tag-at .tag-at .ensures)
+      (at-put-both .put-both .ensures) (at-list-almost2 .list-almost2 .ensures) (at-list-almost3 .list-almost3 .ensures)
 
 pub +list-almost-spec : {M : Type 1} → statement M
 +list-almost-spec =

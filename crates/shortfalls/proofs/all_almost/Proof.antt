@@ -1,3 +1,4 @@
+-- With room for as many kits as there are nodes they are set down at once; otherwise counted where nothing is lent, and then refused or set down.
 use mathlib.Core.Path.{refl}
 use native.Mathlib.Omega.{arith}
 use Rattle.questions.proofs.Answered.{none-lent}

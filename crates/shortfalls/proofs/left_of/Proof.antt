@@ -1,3 +1,4 @@
+-- The last label again, or another.
 use Rattle.shortfalls.proofs.Along.{left-last, left-other}
 use borrow.Author.Needs.{needs}
 use Rattle.shortfalls.proofs.left_of.Statement.{statement}
