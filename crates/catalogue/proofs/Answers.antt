@@ -10,7 +10,7 @@ use lib.Dec.{ltb, leb}
 use borrow.Author.Tests.{leb-true, leb-false, lt-ltb, le-ltb, eq-eqb, ne-eqb}
 use Rattle.ground.specs.Lists.{isZero}
 use Rattle.ground.specs.Laid.{zeroed}
-use Rattle.ground.specs.Calls.{Case, given, plan, Reply, done, refused, isRefused, decide, answer, Promise, setDown, Outputs, setBoth}
+use Rattle.ground.specs.Calls.{Case, given, plan, Reply, done, refused, isRefused, decide, answer, Promise, setDown, Both, setBoth}
 use Rattle.ground.proofs.Calls.{promise-first, promise-front, promise-behind, promise-part, promise-refused, promise-done, first-refuses, first-passes, whole-refuses, whole-passes, set-down-behind, set-both-behind}
 use Rattle.kits.specs.Kits.{mostUnits, mostPlace, units, goodList, GoodRow, listFaults}
 use Rattle.kits.specs.Rows.{rowOf, unitsIn}
@@ -136,7 +136,7 @@ module _ (R N : List ℕ) where
         all-done o w s q e same p = rw same (set-down-behind (lentList (tables R N) l) 0 (allOf question l N) o (whole-passes r _ 0 0 is e) p)
 
       -- Kits that a bin almost fills
-      module _ (d : ℕ) (o : Outputs) where
+      module _ (d : ℕ) (o : Both) where
         pub almost-refused : isRefused r ≡ true → Promise (almostKits d l (tables R N) o) o r o
         unfolding almostKits setBoth
         almost-refused e = rw append-assoc (promise-front (lentList (tables R N) l) _ _ _ o r 0 is e)
@@ -150,7 +150,7 @@ module _ (R N : List ℕ) where
         unfolding decide
         near-passes e h = first-passes r (lentList (tables R N) l) (given (ltb mostShort d) 14 0 ∷ []) 0 0 is e ∙ rw (le-ltb mostShort d h)
 
-        pub almost-done : (s q : Reply) (m : Outputs) → isRefused r ≡ false → d ≤ mostShort → s ≡ q → Promise (listAlmost [] d l N o) o q m → Promise (almostKits d l (tables R N) o) o s m
+        pub almost-done : (s q : Reply) (m : Both) → isRefused r ≡ false → d ≤ mostShort → s ≡ q → Promise (listAlmost [] d l N o) o q m → Promise (almostKits d l (tables R N) o) o s m
         unfolding almostKits
         almost-done s q m e h same p = rw same (set-both-behind (lentList (tables R N) l ++ (given (ltb mostShort d) 14 0 ∷ [])) 0 (almostTags d l N) (almostShorts d l N) o (near-passes e h) p)
 

@@ -7,7 +7,7 @@ use lib.ListN.{length}
 use lib.Dec.{ltb}
 use Rattle.ground.specs.Lists.{isZero}
 use Rattle.ground.specs.Laid.{zeroed}
-use Rattle.ground.specs.Calls.{given, Plan, plan, Promise, setDown, Outputs}
+use Rattle.ground.specs.Calls.{given, Plan, plan, Promise, setDown, Both}
 use Rattle.register.specs.Register.{slotCount}
 use Rattle.register.specs.Calls.{registering, lookingUp, showing}
 use Rattle.kits.specs.Kits.{mostUnits, units, listFaults}
@@ -66,7 +66,7 @@ allKits question l T o = setDown (lentList T l) (allOf question l (T .nodes)) o
 
 -- "list the tags of exactly those kits whose shortfall is at most d .. with the shortfall of each in a second lent output": "new 14, d above 64, after
 -- the list checks and before 12"
-unfoldable pub almostKits : ℕ → List ℕ → Tables → Outputs → Plan Outputs
+unfoldable pub almostKits : ℕ → List ℕ → Tables → Both → Plan Both
 almostKits d l T o = listAlmost (lentList T l ++ (given (ltb mostShort d) 14 0 ∷ [])) d l (T .nodes) o
 
 -- "Write the sheet at the start of a lent output: bytes written"
@@ -96,7 +96,7 @@ pub data Call : Type 0 where
   insertKit : List ℕ → ℕ → Call
   findKit deleteKit anyWithin anyContaining : List ℕ → Call
   allWithin allContaining : List ℕ → List ℕ → Call
-  allAlmost : ℕ → List ℕ → Outputs → Call
+  allAlmost : ℕ → List ℕ → Both → Call
   writeSheet readSheet : List ℕ → Call
 
 -- a call on the register alone

@@ -3,19 +3,19 @@
 use mathlib.Core.Path.{_≡_}
 use mathlib.Core.Logic.{_↔_}
 use mathlib.Core.Bool.{Bool, true}
-use mathlib.Core.List.{List, [], _∷_, _++_, map, List·Memᴰ}
+use mathlib.Core.List.{List, [], _∷_, _++_, List·Memᴰ}
 use Prim.Native.Nat.{ℕ, _+_, _*_, _^_, _≤_, _<_}
 use lib.ListN.{length, take, drop, getD, replicate}
 use lib.Dec.{ltb}
 use Rattle.ground.specs.Limits.{mostParts}
 use Rattle.ground.specs.Lists.{keep}
-use Rattle.ground.specs.Calls.{given, Plan, Reply, done, refused, valueOf, decide, answer, memory, Promise, Given, setDown, Outputs, outputs, setBoth}
+use Rattle.ground.specs.Calls.{given, Plan, Reply, done, refused, valueOf, decide, answer, memory, Promise, Given, setDown, Both, both, setBoth}
 use Rattle.register.specs.Register.{slotBytes}
 use Rattle.kits.specs.Kits.{Within, units, before, listFaults}
 use Rattle.nodes.specs.Nodes.{wordsPerNode, mostNodes, usedNodes}
 use Rattle.nodes.specs.Held.{Kit, inOrder, dropKit, tagIn, tagsOf, firstTag, listed, allBeginnings}
 use Rattle.questions.specs.Questions.{isWithin, isContaining, fitting}
-use Rattle.shortfalls.specs.Shortfalls.{mostShort, shortfall, shortOf, isAlmost}
+use Rattle.shortfalls.specs.Shortfalls.{mostShort, shortfall, isAlmost, shortsOf, OfOne}
 use Rattle.sheet.specs.Bytes.{Bytes, twoLimit}
 use Rattle.sheet.specs.Sheet.{Contents, encode}
 use Rattle.sheet.specs.Reading.{decode, said}
@@ -45,17 +45,17 @@ Question = List ℕ → Kit → Bool
 -- the calls that set something down: a listing and the sheet in an output, the kits that a bin almost fills in two
 pub data SetsDown : Type 0 where
   listing : Question → List ℕ → SetsDown
-  almost : ℕ → List ℕ → SetsDown
+  listingAlmost : ℕ → List ℕ → SetsDown
   sheet : SetsDown
 
 abbrev pub Output : SetsDown → Type 0
 Output (listing question l) = List ℕ
-Output (almost d l) = Outputs
+Output (listingAlmost d l) = Both
 Output sheet = List ℕ
 
 unfoldable pub settingDown : (x : SetsDown) → Tables → Output x → Plan (Output x)
 settingDown (listing question l) T o = allKits question l T o
-settingDown (almost d l) T o = almostKits d l T o
+settingDown (listingAlmost d l) T o = almostKits d l T o
 settingDown sheet T o = writing T o
 
 -- "the tables and output are byte for byte what they were": the output, or both. Proof: Refusals, `refusal-keeps-output`
@@ -216,29 +216,18 @@ AnsweringAlmost =
     (d : ℕ) (bin : List ℕ) (m : Contents) (k : Kit) →
     List·Memᴰ k (answering (isAlmost d) bin m) ↔ (List·Memᴰ k (m .kits) × (shortfall (units bin) (k .row) ≤ d))
 
--- "with the shortfall of each in a second lent output"
-unfoldable pub shortsOf : List ℕ → List Kit → List ℕ
-shortsOf bin ks = map (shortOf (units bin)) ks
-
--- t and s are the tag and the shortfall of one kit of these
-pub record OfOneKit (bin : List ℕ) (ks : List Kit) (t s : ℕ) : Type 0 where
-  pub kit : Kit
-  pub in-list : List·Memᴰ kit ks
-  pub bears : t ≡ kit .tag
-  pub lacks : s ≡ shortfall (units bin) (kit .row)
-
--- place by place of the same kit. Proof: Almost, `shown-in-step`
+-- "with the shortfall of each in a second lent output": place by place of the same kit. Proof: Almost, `shown-in-step`
 abbrev pub ShownInStep : Type 0
 ShownInStep =
     (bin : List ℕ) (ks : List Kit) (i : ℕ) → i < length ks →
-    OfOneKit bin ks (getD (tagsOf ks) i 0) (getD (shortsOf bin ks) i 0)
+    OfOne bin ks (getD (tagsOf ks) i 0) (getD (shortsOf bin ks) i 0)
 
 -- with d = 0 they are the kits within the bin, and every shortfall is 0. Proof: Almost, `zero-is-within`
 abbrev pub ZeroIsWithin : Type 0
 ZeroIsWithin =
     (a : Catalogue) (bin : List ℕ) → Allowed a →
     let ks = answering (isAlmost 0) bin (entered a) in
-    (ks ≡ answering isWithin bin (entered a)) × (shortsOf bin ks ≡ replicate (length ks) 0)
+    (ks ≡ answering isWithin bin (entered a)) × (shortsOf (units bin) ks ≡ replicate (length ks) 0)
 
 -- with a greater d nothing leaves the listing: what is listed for d is what of the listing for e has a shortfall of at most d. Proof: Almost,
 -- `nothing-leaves`
@@ -252,14 +241,14 @@ abbrev pub MostIsAll : Type 0
 MostIsAll = (a : Catalogue) (bin : List ℕ) → Allowed a → answering (isAlmost mostShort) bin (entered a) ≡ inOrder (entered a .kits)
 
 -- the reply, and both outputs afterwards. Proof: Almost, `almost-answers`
-abbrev pub almostOf : ℕ → List ℕ → Contents → Outputs → Plan Outputs
+abbrev pub almostOf : ℕ → List ℕ → Contents → Both → Plan Both
 almostOf d bin m o =
     let ks = answering (isAlmost d) bin m in
-    setBoth (listFaults (length (m .parts)) bin ++ (given (ltb mostShort d) 14 0 ∷ [])) (tagsOf ks) (shortsOf bin ks) o
+    setBoth (listFaults (length (m .parts)) bin ++ (given (ltb mostShort d) 14 0 ∷ [])) (tagsOf ks) (shortsOf (units bin) ks) o
 
 abbrev pub AlmostAnswers : Type 0
 AlmostAnswers =
-    (a : Catalogue) (d : ℕ) (bin : List ℕ) (o : Outputs) → Allowed a →
+    (a : Catalogue) (d : ℕ) (bin : List ℕ) (o : Both) → Allowed a →
     (answer (almostKits d bin (tablesOf a) o) ≡ answer (almostOf d bin (entered a) o))
     × (memory (almostKits d bin (tablesOf a) o) o ≡ memory (almostOf d bin (entered a) o) o)
 
@@ -270,8 +259,8 @@ AlmostShows =
     decide (listFaults (length (entered a .parts)) bin) 0 ≡ done 0 → d ≤ mostShort →
     let ks = answering (isAlmost d) bin (entered a) in
     length ks ≤ length o → length ks ≤ length p →
-    (answer (almostKits d bin (tablesOf a) (outputs o p)) ≡ done (length ks))
-    × (memory (almostKits d bin (tablesOf a) (outputs o p)) (outputs o p) ≡ outputs (tagsOf ks ++ drop (length ks) o) (shortsOf bin ks ++ drop (length ks) p))
+    (answer (almostKits d bin (tablesOf a) (both o p)) ≡ done (length ks))
+    × (memory (almostKits d bin (tablesOf a) (both o p)) (both o p) ≡ both (tagsOf ks ++ drop (length ks) o) (shortsOf (units bin) ks ++ drop (length ks) p))
 
 -- DEMAND 3
 -- s is the sheet that a catalogue writes at the start of the output o, "with enough room to write its sheet"

@@ -16,7 +16,7 @@ use Rattle.growing.specs.Enter.{lowestFree, enter, lacks, nodeOf}
 use Rattle.pruning.specs.Strike.{prune, strikeAt, strike}
 use Rattle.index.specs.Index.{entryRefusals, missingRefusals}
 use Rattle.questions.specs.Questions.{isWithin, isContaining, fitting, anyOf, allOf}
-use Rattle.shortfalls.specs.Shortfalls.{sumOver, lacking, shortfall, shortOf, isAlmost, almostShorts}
+use Rattle.shortfalls.specs.Shortfalls.{sumOver, lacking, shortfall, shortOf, isAlmost, shortsOf}
 use Rattle.sheet.specs.Bytes.{inBytes}
 use Rattle.sheet.specs.Sheet.{numberItem, numberItems, lineItems, recordItem, recordItems, encode}
 use Rattle.lent.specs.Lent.{lengths, lentBoth, lentList}
@@ -26,7 +26,7 @@ use Rattle.demands.specs.ShortCases.{inserted, holding, asked, askedAlmo
 
 -- opens every definition
 unfoldable opened : Bool
-unfolding allb anyb every keep distinct concat eqList from firstOr laid decide answer leaves memory setDown goodByte goodNumber registerLength slotOf slotAt numberIn slotGood unusedAt usedAt numberAt partsOf usedHolds usedFirst unusedZero noneTwice registerSound placeFrom placeIn lentRegister numberRefusals registering lineValue linesFaults listFaults units count noMore includes before linesFrom listOf nodesLength nodesOf othersOf zeroWord isFree isUsed freeNodes usedNodes tagged path rowOf chain children rootGood parentGood depthGood labelGood fewEqual linksInside childGood nextGood onChain endTagged tagsDiffer usedOthers nodesSound putKit inOrder tagIn tagsOf kitAt held hasLabel childWith lastBelow linkTo link unlink lowestFree enter lacks nodeOf prune strikeAt strike entryRefusals missingRefusals isWithin isContaining fitting allOf lengths lentBoth lentList planOf inserting deleting allKits almostKits sumOver lacking shortfall shortOf isAlmost almostShorts setBoth run begun tablesOf inserted holding asked askedAlmost struck firstTag anyOf anyKit log writing encode numberItem numberItems lineItems recordItem recordItems inBytes entries later desk replies
+unfolding allb anyb every keep distinct concat eqList from firstOr laid decide answer leaves memory setDown goodByte goodNumber registerLength slotOf slotAt numberIn slotGood unusedAt usedAt numberAt partsOf usedHolds usedFirst unusedZero noneTwice registerSound placeFrom placeIn lentRegister numberRefusals registering lineValue linesFaults listFaults units count noMore includes before linesFrom listOf nodesLength nodesOf othersOf zeroWord isFree isUsed freeNodes usedNodes tagged path rowOf chain children rootGood parentGood depthGood labelGood fewEqual linksInside childGood nextGood onChain endTagged tagsDiffer usedOthers nodesSound putKit inOrder tagIn tagsOf kitAt held hasLabel childWith lastBelow linkTo link unlink lowestFree enter lacks nodeOf prune strikeAt strike entryRefusals missingRefusals isWithin isContaining fitting allOf lengths lentBoth lentList planOf inserting deleting allKits almostKits sumOver lacking shortfall shortOf isAlmost shortsOf setBoth run begun tablesOf inserted holding asked askedAlmost struck firstTag anyOf anyKit log writing encode numberItem numberItems lineItems recordItem recordItems inBytes entries later desk replies
 opened = true
 
 pub short-cases : ShortCases

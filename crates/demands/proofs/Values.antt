@@ -9,7 +9,7 @@ use native.Mathlib.Omega.{arith}
 use lib.ListN.{length, getD, length-append, length-map}
 use borrow.Author.Tests.{not-false, ltb-false}
 use Rattle.ground.specs.Lists.{anyb, concat, eqList, isZero}
-use Rattle.ground.specs.Calls.{Case, Reply, done, refused, isRefused, valueOf, decide, answer, setDown, Outputs, setBoth}
+use Rattle.ground.specs.Calls.{Case, Reply, done, refused, isRefused, valueOf, decide, answer, setDown, Both, setBoth}
 use Rattle.ground.proofs.Laws.{by-cond}
 use Rattle.ground.proofs.Calls.{whole-passes, done-passes}
 use Rattle.register.specs.Number.{goodNumber}
@@ -248,7 +248,7 @@ module _ (R N : List ℕ) (words : (i : ℕ) → getD N i 0 < twoLimit) where
   unfolding allKits allOf fitting
   all-small question l o = down-small (lentList T l) _ o (list-plain T l) (few-fitting question l)
 
-  almost-small : (d : ℕ) (l : List ℕ) (o : Outputs) → valueOf (answer (almostKits d l (tables R N) o)) < limit
+  almost-small : (d : ℕ) (l : List ℕ) (o : Both) → valueOf (answer (almostKits d l (tables R N) o)) < limit
   unfolding answer almostKits setBoth allOf fitting
   almost-small d l o = rw append-assoc (small-front limit some-limit (lentList T l) _ _ (list-plain T l) (λ e.
       small-step limit some-limit _ _ _ (λ _. some-limit) (λ _.

@@ -4,7 +4,7 @@ use mathlib.Core.Path.{_≡_}
 use mathlib.Core.List.{List, [], _∷_, _++_, map}
 use Prim.Native.Nat.{ℕ, suc}
 use lib.ListN.{length, replicate}
-use Rattle.ground.specs.Calls.{Reply, done, refused, answer, memory, Outputs, outputs}
+use Rattle.ground.specs.Calls.{Reply, done, refused, answer, memory, Both, both}
 use Rattle.kits.specs.Kits.{listOf}
 use Rattle.nodes.specs.Nodes.{usedNodes}
 use Rattle.questions.specs.Questions.{isWithin, isContaining}
@@ -54,9 +54,9 @@ ShortCases =
     × (struck ((1 ∷ []) ∷ ((1 ∷ (2 ∷ [])) ∷ [])) (1 ∷ (2 ∷ [])) ≡ (done 2, 2))
 
 -- Request 1: the kits that units almost fill but for at most d, the reply and outputs of two places each
-unfoldable pub askedAlmost : ℕ → List (List ℕ) → List ℕ → Reply × Outputs
+unfoldable pub askedAlmost : ℕ → List (List ℕ) → List ℕ → Reply × Both
 askedAlmost d rs r =
-    let o = outputs (0 ∷ (0 ∷ [])) (9 ∷ (9 ∷ [])) in
+    let o = both (0 ∷ (0 ∷ [])) (9 ∷ (9 ∷ [])) in
     let p = almostKits d (listOf r) (holding rs) o in
     (answer p, memory p o)
 
@@ -64,11 +64,11 @@ askedAlmost d rs r =
 -- it is. Proof: proofs/ShortCases, `almost-cases`
 abbrev pub AlmostCases : Type 0
 AlmostCases =
-    (askedAlmost 0 ((1 ∷ []) ∷ ((1 ∷ (1 ∷ (1 ∷ []))) ∷ [])) (2 ∷ (2 ∷ (2 ∷ []))) ≡ (done 0, outputs (0 ∷ (0 ∷ [])) (9 ∷ (9 ∷ []))))
-    × (askedAlmost 2 ((1 ∷ []) ∷ ((1 ∷ (1 ∷ (1 ∷ []))) ∷ [])) (2 ∷ (2 ∷ (2 ∷ []))) ≡ (done 1, outputs (1 ∷ (0 ∷ [])) (1 ∷ (9 ∷ []))))
-    × (askedAlmost 3 ((1 ∷ []) ∷ ((1 ∷ (1 ∷ (1 ∷ []))) ∷ [])) (2 ∷ (2 ∷ (2 ∷ []))) ≡ (done 2, outputs (1 ∷ (2 ∷ [])) (1 ∷ (3 ∷ []))))
-    × (askedAlmost 1 ((1 ∷ (1 ∷ [])) ∷ ((1 ∷ (3 ∷ [])) ∷ [])) (1 ∷ (2 ∷ [])) ≡ (done 2, outputs (1 ∷ (2 ∷ [])) (1 ∷ (1 ∷ []))))
-    × (askedAlmost 65 ((1 ∷ []) ∷ []) (1 ∷ []) ≡ (refused 14 0, outputs (0 ∷ (0 ∷ [])) (9 ∷ (9 ∷ []))))
+    (askedAlmost 0 ((1 ∷ []) ∷ ((1 ∷ (1 ∷ (1 ∷ []))) ∷ [])) (2 ∷ (2 ∷ (2 ∷ []))) ≡ (done 0, both (0 ∷ (0 ∷ [])) (9 ∷ (9 ∷ []))))
+    × (askedAlmost 2 ((1 ∷ []) ∷ ((1 ∷ (1 ∷ (1 ∷ []))) ∷ [])) (2 ∷ (2 ∷ (2 ∷ []))) ≡ (done 1, both (1 ∷ (0 ∷ [])) (1 ∷ (9 ∷ []))))
+    × (askedAlmost 3 ((1 ∷ []) ∷ ((1 ∷ (1 ∷ (1 ∷ []))) ∷ [])) (2 ∷ (2 ∷ (2 ∷ []))) ≡ (done 2, both (1 ∷ (2 ∷ [])) (1 ∷ (3 ∷ []))))
+    × (askedAlmost 1 ((1 ∷ (1 ∷ [])) ∷ ((1 ∷ (3 ∷ [])) ∷ [])) (1 ∷ (2 ∷ [])) ≡ (done 2, both (1 ∷ (2 ∷ [])) (1 ∷ (1 ∷ []))))
+    × (askedAlmost 65 ((1 ∷ []) ∷ []) (1 ∷ []) ≡ (refused 14 0, both (0 ∷ (0 ∷ [])) (9 ∷ (9 ∷ []))))
 
 -- Document 01, "The desk program": the worked example as calls, with room for four parts and six nodes
 unfoldable pub entries : List Call

@@ -6,7 +6,7 @@ use Prim.Native.Nat.{ℕ, _≤_, _<_, min}
 use native.Mathlib.Omega.{arith}
 use lib.ListN.{length, getD, length-map}
 use lib.Dec.{leb}
-use Rattle.ground.specs.Calls.{done, refused, Promise, outputs, setBoth}
+use Rattle.ground.specs.Calls.{done, refused, Promise, both, setBoth}
 use Rattle.ground.proofs.Calls.{set-both-full, set-both-done}
 use Rattle.kits.specs.Kits.{mostPlace, goodList, units}
 use Rattle.kits.specs.Rows.{quantities}
@@ -24,7 +24,7 @@ use Rattle.questions.specs.Walks.{foundIn}
 use Rattle.questions.proofs.Written.{wrote-laid}
 use Rattle.questions.proofs.Found.{found-few, kits-found, tags-at}
 use Rattle.questions.proofs.Meaning.{fitting-exactly}
-use Rattle.shortfalls.specs.Shortfalls.{shortOf, isAlmost, almostTags, almostShorts}
+use Rattle.shortfalls.specs.Shortfalls.{shortOf, isAlmost, almostTags, almostShorts, shortsOf}
 use Rattle.shortfalls.specs.Inner.{shortIn, almost, shortAt, WroteBoth, WroteNodes}
 use Rattle.shortfalls.proofs.Along.{short-along}
 
@@ -55,7 +55,7 @@ module _ (d : ℕ) {N Q : List ℕ} (l : List ℕ) (S : Shape mostPlace N) (g : 
   tags-are = ap tagsOf kits-are ∙ tags-at N (foundIn (almost Q d) N)
 
   pub shorts-are : almostShorts d l N ≡ map (shortAt Q N) (foundIn (almost Q d) N)
-  unfolding almostShorts rowShort
+  unfolding shortsOf rowShort
   shorts-are =
       map-same (shortOf (units l)) (rowShort Q) (fitting (isAlmost d) l N) (λ k m. kit-short k (fitting-exactly (isAlmost d) l N k .0 m .0))
       ∙ ap (map (rowShort Q)) kits-are ∙ shorts-at Q N (foundIn (almost Q d) N)
@@ -65,14 +65,14 @@ module _ {xs ys ts ss : List ℕ} (a : xs ≡ ts) (b : ys ≡ ss) (o z : List �
   many : need ≡ length xs
   many = omega (arith, counted .one .ends, ap length a)
 
-  pub all-refused : {m w : List ℕ} → m ≡ o → w ≡ z → room < need → Promise (setBoth [] xs ys (outputs o z)) (outputs o z) (refused 12 need) (outputs m w)
-  all-refused i j h = rw (many, i, j) (set-both-full xs ys (outputs o z) (omega (arith, many, e)))
+  pub all-refused : {m w : List ℕ} → m ≡ o → w ≡ z → room < need → Promise (setBoth [] xs ys (both o z)) (both o z) (refused 12 need) (both m w)
+  all-refused i j h = rw (many, i, j) (set-both-full xs ys (both o z) (omega (arith, many, e)))
 
-  pub all-done : {m w o′ z′ : List ℕ} {r : ℕ} → m ≡ o → w ≡ z → need ≤ room → WroteBoth m o′ w z′ 0 r ts ss → Promise (setBoth [] xs ys (outputs o z)) (outputs o z) (done need) (outputs o′ z′)
+  pub all-done : {m w o′ z′ : List ℕ} {r : ℕ} → m ≡ o → w ≡ z → need ≤ room → WroteBoth m o′ w z′ 0 r ts ss → Promise (setBoth [] xs ys (both o z)) (both o z) (done need) (both o′ z′)
   all-done i j h k =
       let u = wrote-laid a i (omega (arith, many, e)) (k .one) in
       let v = wrote-laid b j (omega (arith, many, e, ap length a, ap length b, k .one .ends, k .two .ends)) (k .two) in
-      rw (many, u, v) (set-both-done xs ys (outputs o z) (omega (arith, many, e)))
+      rw (many, u, v) (set-both-done xs ys (both o z) (omega (arith, many, e)))
 
 -- as many kits as there are nodes at most
 pub no-more-than-nodes : (Q : List ℕ) (d : ℕ) {N o o′ z z′ : List ℕ} {n r : ℕ} → Shape mostPlace N → WroteNodes Q N o o′ z z′ 0 r (foundIn (almost Q d) N) → n ≡ size N → r ≤ n

@@ -16,7 +16,7 @@ use Rattle.kits.proofs.Units.{row-rises, row-upto}
 use Rattle.nodes.specs.Held.{Kit, tagsOf}
 use Rattle.nodes.proofs.Sorted.{keep-same, keep-all, keep-twice, keep-mem}
 use Rattle.questions.specs.Questions.{isWithin}
-use Rattle.shortfalls.specs.Shortfalls.{mostShort, shortfall, shortOf, isAlmost}
+use Rattle.shortfalls.specs.Shortfalls.{mostShort, shortfall, shortOf, isAlmost, shortsOf, OfOne}
 use Rattle.shortfalls.proofs.Sums.{short-within, within-short}
 use Rattle.shortfalls.proofs.Along.{short-few}
 
@@ -42,8 +42,8 @@ module _ (bin : List ℕ) (ks : List Kit) where
   almost-grows d e h = sym (keep-twice (isAlmost d bin) (isAlmost e bin) (λ k t. almost-asks e bin k .1 (omega (arith, almost-asks d bin k .0 t))) ks)
 
   -- d = 0: every shortfall is 0
-  pub zero-shorts : map (shortOf bin) (keep (isAlmost 0 bin) ks) ≡ replicate (length (keep (isAlmost 0 bin) ks)) 0
-  unfolding shortOf
+  pub zero-shorts : shortsOf bin (keep (isAlmost 0 bin) ks) ≡ replicate (length (keep (isAlmost 0 bin) ks)) 0
+  unfolding shortsOf shortOf
   zero-shorts = go (keep (isAlmost 0 bin) ks) (λ k m. omega (arith, almost-asks 0 bin k .0 (keep-mem (isAlmost 0 bin) k ks m .1)))
     where
       go : (js : List Kit) → ((k : Kit) → List·Memᴰ k js → shortOf bin k ≡ 0) → map (shortOf bin) js ≡ replicate (length js) 0
@@ -73,14 +73,8 @@ module _ (bin : List ℕ) (ks : List Kit) where
 ------------------------------------------------------------------------
 -- "with the shortfall of each": place by place, of the same kit
 
-pub record OfOne (bin : List ℕ) (ks : List Kit) (t s : ℕ) : Type 0 where
-  pub kit : Kit
-  pub in-list : List·Memᴰ kit ks
-  pub bears : t ≡ kit .tag
-  pub lacks : s ≡ shortfall bin (kit .row)
-
-pub in-step : (bin : List ℕ) (ks : List Kit) (i : ℕ) → i < length ks → OfOne bin ks (getD (tagsOf ks) i 0) (getD (map (shortOf bin) ks) i 0)
-unfolding tagsOf shortOf
+pub in-step : (bin : List ℕ) (ks : List Kit) (i : ℕ) → i < length ks → OfOne bin ks (getD (tagsOf ks) i 0) (getD (shortsOf bin ks) i 0)
+unfolding tagsOf shortsOf shortOf
 in-step bin [] i h = absurd (omega arith)
 in-step bin (k ∷ ks) zero h = record { kit = k; in-list = List·Memᴰ·head refl; bears = refl; lacks = refl }
 in-step bin (k ∷ ks) (suc i) h =

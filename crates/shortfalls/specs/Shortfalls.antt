@@ -1,10 +1,11 @@
 -- Request 1, "kits that a bin almost fills": over the kits held and their quantities alone.
+use mathlib.Core.Path.{_≡_}
 use mathlib.Core.Bool.{Bool}
-use mathlib.Core.List.{List, [], _∷_, map}
+use mathlib.Core.List.{List, [], _∷_, map, List·Memᴰ}
 use Prim.Native.Nat.{ℕ, _+_, _-_}
 use lib.Dec.{leb}
 use Rattle.ground.specs.Lists.{from}
-use Rattle.ground.specs.Calls.{Case, Plan, Outputs, setBoth}
+use Rattle.ground.specs.Calls.{Case, Plan, Both, setBoth}
 use Rattle.kits.specs.Kits.{mostUnits, mostPlace, units, count}
 use Rattle.nodes.specs.Held.{Kit}
 use Rattle.questions.specs.Questions.{fitting, allOf}
@@ -36,9 +37,19 @@ isAlmost d bin k = leb (shortOf bin k) d
 abbrev pub almostTags : ℕ → List ℕ → List ℕ → List ℕ
 almostTags d l N = allOf (isAlmost d) l N
 
-unfoldable pub almostShorts : ℕ → List ℕ → List ℕ → List ℕ
-almostShorts d l N = map (shortOf (units l)) (fitting (isAlmost d) l N)
+unfoldable pub shortsOf : List ℕ → List Kit → List ℕ
+shortsOf bin ks = map (shortOf bin) ks
+
+abbrev pub almostShorts : ℕ → List ℕ → List ℕ → List ℕ
+almostShorts d l N = shortsOf (units l) (fitting (isAlmost d) l N)
+
+-- t and s are the tag and the shortfall of one of these kits
+pub record OfOne (bin : List ℕ) (ks : List Kit) (t s : ℕ) : Type 0 where
+  pub kit : Kit
+  pub in-list : List·Memᴰ kit ks
+  pub bears : t ≡ kit .tag
+  pub lacks : s ≡ shortfall bin (kit .row)
 
 -- both set down, behind other refusals
-abbrev pub listAlmost : List Case → ℕ → List ℕ → List ℕ → Outputs → Plan Outputs
+abbrev pub listAlmost : List Case → ℕ → List ℕ → List ℕ → Both → Plan Both
 listAlmost cs d l N o = setBoth cs (almostTags d l N) (almostShorts d l N) o

@@ -1,6 +1,6 @@
 -- Refused with what is lent, then with d; otherwise the promise of the walk, behind these refusals.
 use mathlib.Core.Path.{sym, ap, _∙_}
-use Rattle.ground.specs.Calls.{isRefused, outputs}
+use Rattle.ground.specs.Calls.{isRefused, both}
 use Rattle.lent.proofs.Lent.{lent-passed, lent-sound, lent-good}
 use Rattle.catalogue.proofs.Answers.{almost-refused, almost-too-far, almost-done}
 use borrow.Author.Needs.{needs}
@@ -18,7 +18,7 @@ returns c =
     let at-refused = c .before in
     let at-check-lent = at-refused .before in
     let a = at-check-lent .before .before .before .before .before .before .args in
-    almost-refused (a .reg .now) (a .nodes .now) (a .bin .now) _ (at-check-lent .check-lent .ensures) (a .d) (outputs (a .tags .now) (a .shorts .now))
+    almost-refused (a .reg .now) (a .nodes .now) (a .bin .now) _ (at-check-lent .check-lent .ensures) (a .d) (both (a .tags .now) (a .shorts .now))
     (sym (at-refused .refused .ensures) ∙ c .if1 .taken)
 
 returns-2 : tie.Need-returns-2
@@ -27,7 +27,7 @@ returns-2 c =
     let at-refused = at-if1 .before in
     let at-check-lent = at-refused .before in
     let a = at-check-lent .before .before .before .before .before .before .args in
-    almost-too-far (a .reg .now) (a .nodes .now) (a .bin .now) _ (at-check-lent .check-lent .ensures) (a .d) (outputs (a .tags .now) (a .shorts .now))
+    almost-too-far (a .reg .now) (a .nodes .now) (a .bin .now) _ (at-check-lent .check-lent .ensures) (a .d) (both (a .tags .now) (a .shorts .now))
     (sym (at-refused .refused .ensures) ∙ at-if1 .if1 .left) (c .if2 .taken)
 
 all-almost-requires : tie.Need-all-almost-requires
@@ -57,7 +57,7 @@ returns-3 c =
     let at-refused = at-if1 .before in
     let at-check-lent = at-refused .before in
     let a = at-check-lent .before .before .before .before .before .before .args in
-    almost-done (a .reg .now) (a .nodes .now) (a .bin .now) _ (at-check-lent .check-lent .ensures) (a .d) (outputs (a .tags .now) (a .shorts .now)) _ _ _
+    almost-done (a .reg .now) (a .nodes .now) (a .bin .now) _ (at-check-lent .check-lent .ensures) (a .d) (both (a .tags .now) (a .shorts .now)) _ _ _
     (sym (at-refused .refused .ensures) ∙ at-if1 .if1 .left) (at-if2 .if2 .left) (c .listed-answer .ensures) (at-all-almost .all-almost .ensures)
 
 pub all-almost-spec : {M : Type 1} → statement M
