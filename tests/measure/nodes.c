@@ -5,15 +5,15 @@
 // number of nodes, 1 where it is sound or else 0 (all in 32 bits), and the words (16 bits). First
 // every check must say of every table what stands in the file. Then one line a table is written:
 // the nanoseconds of the plain pass and of each check, the least processor time of many rounds.
+#define PROGRAM "nodes"
+#include "timing.h"
 #include <stdbool.h>
 #include <stddef.h>
 #include <stdint.h>
 #include <stdio.h>
 #include <stdlib.h>
-#include <time.h>
 
-enum { NODE_WORDS = 6, SWEEPS = 12, ROUNDS = 16 };
-#define ROUND_NANOSECONDS 200e3
+enum { NODE_WORDS = 6 };
 
 // The build lists the checks: declared here, in a row below, and by name.
 #define CHECK(name) bool name(const uint16_t *nodes, size_t words, uint16_t parts);
@@ -43,27 +43,10 @@ static Job *const jobs[] = {plain_pass, CHECKS};
 static const char *const names[] = {"plain_pass", CHECKS};
 enum { JOBS = sizeof jobs / sizeof *jobs };
 
-// A table; how often each job is done on it in one round, and the least time that it took once.
 typedef struct {
     uint32_t parts, nodes, sound;
     uint16_t *words;
-    long times[JOBS];
-    double least[JOBS];
 } Table;
-
-static void fail(const char *what)
-{
-    fprintf(stderr, "nodes: %s\n", what);
-    exit(1);
-}
-
-static uint32_t read_number(FILE *file)
-{
-    uint32_t number;
-    if (fread(&number, sizeof number, 1, file) != 1)
-        fail("the file of tables is too short");
-    return number;
-}
 
 static size_t words_of(const Table *table) { return (size_t)table->nodes * NODE_WORDS; }
 
@@ -73,11 +56,7 @@ static Table read_table(FILE *file)
     table.parts = read_number(file);
     table.nodes = read_number(file);
     table.sound = read_number(file);
-    table.words = malloc(words_of(&table) * sizeof *table.words);
-    if (!table.words)
-        fail("no memory for a table");
-    if (fread(table.words, sizeof *table.words, words_of(&table), file) != words_of(&table))
-        fail("the file of tables is too short");
+    table.words = read_words(file, words_of(&table));
     return table;
 }
 
@@ -99,56 +78,9 @@ static bool agree(const Table *table, uint32_t number)
     return alike;
 }
 
-// The processor time of this thread, so that what else the machine runs counts for less.
-static double now(void)
-{
-    struct timespec time;
-    clock_gettime(CLOCK_THREAD_CPUTIME_ID, &time);
-    return (double)time.tv_sec * 1e9 + (double)time.tv_nsec;
-}
+static void once(int job, const void *table) { sink = run(job, table); }
 
-static double took(int job, const Table *table, long times)
-{
-    double start = now();
-    for (long again = 0; again < times; again++)
-        sink = run(job, table);
-    return now() - start;
-}
-
-// Chooses how often, so that a round is long beside the clock, and takes a first time.
-static void choose_times(Table *table)
-{
-    for (int job = 0; job < JOBS; job++) {
-        long times = 1;
-        while (took(job, table, times) < ROUND_NANOSECONDS)
-            times *= 2;
-        table->times[job] = times;
-        table->least[job] = took(job, table, times) / (double)times;
-    }
-}
-
-// All jobs on one table in turn.
-static void time_round(Table *table)
-{
-    for (int job = 0; job < JOBS; job++) {
-        double one = took(job, table, table->times[job]) / (double)table->times[job];
-        if (one < table->least[job])
-            table->least[job] = one;
-    }
-}
-
-// All tables again and again, some rounds each, so that a busy moment falls on few rounds of each.
-static void time_tables(Table *tables, uint32_t count)
-{
-    for (uint32_t at = 0; at < count; at++)
-        choose_times(&tables[at]);
-    for (int sweep = 0; sweep < SWEEPS; sweep++)
-        for (uint32_t at = 0; at < count; at++)
-            for (int round = 0; round < ROUNDS; round++)
-                time_round(&tables[at]);
-}
-
-static void write_times(const Table *table)
+static void write_times(const Timed *table)
 {
     for (int job = 0; job < JOBS; job++)
         printf("%.2f%c", table->least[job], job + 1 < JOBS ? ' ' : '\n');
@@ -180,8 +112,13 @@ int main(int argc, char **argv)
         alike &= agree(&tables[at], at + 1);
     if (!alike)
         return 1;
-    time_tables(tables, count);
+    Timed *timed = malloc(count * sizeof *timed);
+    if (!timed)
+        fail("no memory for the times");
     for (uint32_t at = 0; at < count; at++)
-        write_times(&tables[at]);
+        timed[at].item = &tables[at];
+    time_all(timed, count, JOBS, once);
+    for (uint32_t at = 0; at < count; at++)
+        write_times(&timed[at]);
     return 0;
 }

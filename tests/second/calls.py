@@ -1,13 +1,16 @@
-"""The answer to a request: every call with its refusals in document 01's order."""
+"""The answer to a request: every call with its refusals in the order of documents 01 and 02."""
 
 from . import index, kits, nodes, questions, register, sheet
 from .frame import ANSWER_BLOCKS, BROKEN_ANSWER, Answer, Broken, unpack_request
 from .refusals import (
     ALREADY_HELD, BAD_NUMBER, DONE, NO_ROOM, NOT_HELD, NOT_SOUND, SHEET_AT_FAULT, TAG_TAKEN,
-    TAG_ZERO, TOO_MANY_UNITS, WRONG_LENGTH, Refusal)
+    TAG_ZERO, TOO_FAR_SHORT, TOO_MANY_UNITS, WRONG_LENGTH, Refusal)
 
 # The letters that the probe answers today.
-PROBE_LETTERS = "eplnkfdwcWCsr"
+PROBE_LETTERS = "eplnkfdwcWCasr"
+
+# "a number d from 0 to 64"
+MOST_SHORT = 64
 
 
 def check_register(lent):
@@ -172,6 +175,22 @@ def all_containing(request):
     return len(tags), {"P": at_start(request.blocks["P"], tags)}
 
 
+def almost_filled(request):
+    """The kits that a bin almost fills: their tags, and the shortfall of each in a second output.
+
+    "The value is how many." 14 comes "after the list checks and before 12", and 12 "where either
+    output is shorter than the answer, value the places needed".
+    """
+    lent, most = request.blocks, request.a
+    parts = check_tables(lent)
+    row = kits.units(kits.checked_lines(lent["L"], parts))
+    if most > MOST_SHORT:
+        raise Refusal(TOO_FAR_SHORT)
+    found = questions.almost_filled(nodes.held_kits(lent["N"]), row, most)
+    return len(found), {"P": at_start(lent["P"], [tag for tag, _ in found]),
+                        "Q": at_start(lent["Q"], [lacking for _, lacking in found])}
+
+
 def write_sheet(request):
     """Write the sheet at the start of a lent output: bytes written."""
     lent = request.blocks
@@ -216,6 +235,7 @@ CALLS = {
     "c": any_containing,
     "W": all_within,
     "C": all_containing,
+    "a": almost_filled,
     "s": write_sheet,
     "r": read_sheet,
 }

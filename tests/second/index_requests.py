@@ -13,9 +13,9 @@ from .register_requests import damaged_register, many_numbers
 from .short_cases import CONTAINING, DELETE, PRINTED_STEPS, SHORT_CASES, WITHIN
 
 # The calls that are lent both tables and look at them, and those that take a list.
-TABLE_LETTERS = "kfdwcWCs"
-LIST_LETTERS = "kfdwcWC"
-QUESTION_LETTERS = "wcWC"
+TABLE_LETTERS = "kfdwcWCas"
+LIST_LETTERS = "kfdwcWCa"
+QUESTION_LETTERS = "wcWCa"
 ALL_LETTERS = "e" + TABLE_LETTERS
 
 # Values that a damaged word is often given: limits of depth, quantity, parts and words.
@@ -23,6 +23,7 @@ EDGE_WORDS = [0, 1, 2, 3, 14, 15, 16, 17, 63, 64, 65, 255, 256, 32767, 32768, 65
 
 # Contents of an output before the call, so that what lies behind the answer can be seen.
 BEFORE = [61001, 61002, 61003, 61004, 61005, 61006, 61007, 61008, 61009, 61010, 61011, 61012]
+SECOND_BEFORE = [62000 + at for at in range(1, 13)]
 
 # The longest unit row with few parts: 15 of each of four parts and 4 of a fifth.
 LONGEST_LIST = [1, 15, 2, 15, 3, 15, 4, 15, 5, 4]
@@ -48,9 +49,15 @@ def raw_path(labels, tag=1, spare=0):
     return nodes.words_of(row + [FREE] * spare)
 
 
-def some_output(letter, count=6):
-    """The output that a listing is lent."""
-    return BEFORE[:count] if letter in "WC" else []
+def some_outputs(letter, count=6):
+    """The outputs that a listing is lent: one, or two where shortfalls stand beside the tags."""
+    return {"P": BEFORE[:count] if letter in "WCa" else [],
+            "Q": SECOND_BEFORE[:count] if letter == "a" else []}
+
+
+def tag_or_most(letter, tag):
+    """Argument A: this tag, or the most that a kit may lack, from 0 to 6."""
+    return tag % 7 if letter == "a" else tag
 
 
 @functools.lru_cache(maxsize=None)
@@ -85,23 +92,29 @@ def table_lengths():
     register = parts_register(2)
     for length in (0, 1, 5, 6, 7, 11, 12, 13):
         for letter in ALL_LETTERS:
-            yield Request(letter, 7, R=register, N=[0] * length, L=[1, 1], P=some_output(letter),
+            yield Request(letter, 7, R=register, N=[0] * length, L=[1, 1], **some_outputs(letter),
                           O=b"before the sheet", note="node table of %d words" % length)
 
 
-def tables_in_order():
-    """The order "1 register, 1 nodes, 2 register, 2 nodes", and 8 and 4 behind them."""
+def pairs_of_tables():
+    """A register and a node table, each right, of wrong length, empty or not sound, with a note."""
     registers = {"right": parts_register(2), "wrong length": bytes(33), "empty": b"",
                  "not sound": bytes(32) + parts_register(1, 1)}
     tables = {"right": [0] * 12, "wrong length": [0] * 13, "empty": [],
               "not sound": [0, 0, 0, 0, 0, 0, 0, 0, 0, 1, 1, 1]}
     for register_note, register in registers.items():
         for table_note, words in tables.items():
-            for letter in ALL_LETTERS:
-                for tag, bad in ((0, [1]), (3, [1, 0]), (4, [2, 1])):
-                    yield Request(letter, tag, R=register, N=words, L=bad, P=some_output(letter),
-                                  O=b"a sheet goes here at the start of this output and more",
-                                  note="register %s, nodes %s" % (register_note, table_note))
+            yield register, words, "register %s, nodes %s" % (register_note, table_note)
+
+
+def tables_in_order():
+    """The order "1 register, 1 nodes, 2 register, 2 nodes", and 8 and 4 behind them."""
+    for register, words, note in pairs_of_tables():
+        for letter in ALL_LETTERS:
+            for tag, bad in ((0, [1]), (3, [1, 0]), (4, [2, 1])):
+                yield Request(letter, tag, R=register, N=words, L=bad, **some_outputs(letter),
+                              O=b"a sheet goes here at the start of this output and more",
+                              note=note)
 
 
 def broken_tables():
@@ -162,7 +175,7 @@ def broken_tables():
     for note, row in tables.items():
         for letter in TABLE_LETTERS:
             yield Request(letter, 6, R=two, N=nodes.words_of(row), L=[2, 1],
-                          P=some_output(letter), O=bytes(60), note=note)
+                          **some_outputs(letter), O=bytes(60), note=note)
 
 
 # The root's chain is nodes 1, 2, 3; node 1's chain is nodes 4, 5, 6; nodes 7 and 8 are free.
@@ -215,7 +228,7 @@ def broken_chains():
     for note, row in {"two chains": TWO_CHAINS, **LOST_NODES, **WRONG_LINKS}.items():
         for letter in TABLE_LETTERS:
             yield Request(letter, 6, R=parts_register(3), N=nodes.words_of(row), L=[1, 2],
-                          P=some_output(letter), O=bytes(60), note=note)
+                          **some_outputs(letter), O=bytes(60), note=note)
 
 
 def raw_paths():
@@ -242,14 +255,14 @@ def raw_paths():
         words = raw_path(row, spare=2)
         listed = words_of(lines_of(row))
         for letter in TABLE_LETTERS:
-            yield Request(letter, 9, R=five, N=words, L=listed, P=some_output(letter),
+            yield Request(letter, 9, R=five, N=words, L=listed, **some_outputs(letter),
                           O=bytes(90), note=note)
         yield Request("k", 9, R=five, N=words, L=[5, 1], note=note)
     # Labels count against the parts registered, not against the slots.
     for parts, slots in ((0, 3), (1, 3), (2, 3), (3, 3)):
         for letter in TABLE_LETTERS:
             yield Request(letter, 9, R=parts_register(parts, slots), N=raw_path((2,)), L=[],
-                          P=some_output(letter), O=bytes(60),
+                          **some_outputs(letter), O=bytes(60),
                           note="label 2 beside %d parts in %d slots" % (parts, slots))
 
 
@@ -269,19 +282,19 @@ def list_limits():
     ]
     for at, listed in enumerate(lists):
         for letter in LIST_LETTERS:
-            yield Request(letter, 100 + at, R=three, N=words, L=listed, P=some_output(letter),
-                          note="list %s" % listed)
+            yield Request(letter, tag_or_most(letter, 100 + at), R=three, N=words, L=listed,
+                          **some_outputs(letter), note="list %s" % listed)
         yield Request("k", 0, R=three, N=words, L=listed, note="tag 0 and list %s" % listed)
     for listed in ([], [1, 1], [1, 0], [0, 0], [1]):
         for letter in LIST_LETTERS:
             yield Request(letter, 5, R=parts_register(0, 1), N=[0] * 12, L=listed,
-                          P=some_output(letter), note="no parts, list %s" % listed)
+                          **some_outputs(letter), note="no parts, list %s" % listed)
     five = parts_register(5)
     for listed in (LONGEST_LIST, TOO_LONG_LIST, [1, 15, 2, 15, 3, 15, 4, 15, 5, 15]):
         held = table(70, (units(lines_of_words(LONGEST_LIST)), 12))
         for letter in LIST_LETTERS:
             for words in ([0] * 6, [0] * 65 * NODE_WORDS, held):
-                yield Request(letter, 12, R=five, N=words, L=listed, P=some_output(letter),
+                yield Request(letter, 12, R=five, N=words, L=listed, **some_outputs(letter),
                               note="%s %d units" % ("insert" if letter == "k" else "ask for",
                                                     sum(listed[1::2])))
 
@@ -347,7 +360,7 @@ def deletions():
 
 
 # The calls that try each kind of short case.
-CASE_LETTERS = {WITHIN: "wW", CONTAINING: "cC", DELETE: "d"}
+CASE_LETTERS = {WITHIN: "wWa", CONTAINING: "cC", DELETE: "d"}
 
 
 def short_cases():
@@ -357,7 +370,7 @@ def short_cases():
         words = table(6, *((kit, tag) for tag, kit in enumerate(held, start=11)))
         for letter in CASE_LETTERS[question]:
             yield Request(letter, R=five, N=words, L=words_of(lines_of(row)),
-                          P=some_output(letter, 3), note="%s %s of %s" % (question, row, held))
+                          **some_outputs(letter, 3), note="%s %s of %s" % (question, row, held))
     held = [((1, 2, 5), 31), ((1, 3), 32), ((2, 3), 33), ((2, 5), 34), ((3,), 35), ((3, 3), 36),
             ((1, 1, 4), 37), ((4, 5), 38), ((1, 5, 5), 39), ((), 30)]
     lists = [[], [1, 1], [2, 1], [3, 1], [3, 2], [4, 1], [5, 1], [5, 2], [1, 1, 5, 1],
@@ -367,7 +380,7 @@ def short_cases():
         words = table(30, *kits)
         for listed in lists:
             for letter in QUESTION_LETTERS:
-                yield Request(letter, R=five, N=words, L=listed, P=some_output(letter, 11),
+                yield Request(letter, 1, R=five, N=words, L=listed, **some_outputs(letter, 11),
                               note="question on %s" % listed)
 
 
@@ -390,8 +403,8 @@ def bins():
     for first in (1, 13, 14, 15):
         for second in (1, 14, 15):
             for letter in QUESTION_LETTERS:
-                yield Request(letter, R=two, N=words, L=[1, first, 2, second],
-                              P=some_output(letter), note="%d and %d" % (first, second))
+                yield Request(letter, 1, R=two, N=words, L=[1, first, 2, second],
+                              **some_outputs(letter), note="%d and %d" % (first, second))
 
 
 def sweeps():
@@ -407,8 +420,9 @@ def sweeps():
             changed = words[:at] + [value] + words[at + 1:]
             letter = letters[turn % len(letters)]
             turn += 1
-            yield Request(letter, 77, R=three, N=changed, L=[1, 1, 2, 1], P=some_output(letter, 9),
-                          O=bytes(80), note="word %d set to %d" % (at, value))
+            yield Request(letter, tag_or_most(letter, 77), R=three, N=changed, L=[1, 1, 2, 1],
+                          **some_outputs(letter, 9), O=bytes(80),
+                          note="word %d set to %d" % (at, value))
     tiny = table(4, ((1, 2), 2), ((2,), 3))
     tiny_values = (0, 1, 2, 3)
     for first in range(len(tiny)):
@@ -421,8 +435,8 @@ def sweeps():
                     changed[first], changed[second] = one, two
                     letter = letters[turn % len(letters)]
                     turn += 1
-                    yield Request(letter, 77, R=three, N=changed, L=[2, 1],
-                                  P=some_output(letter, 3), O=bytes(60),
+                    yield Request(letter, tag_or_most(letter, 77), R=three, N=changed, L=[2, 1],
+                                  **some_outputs(letter, 3), O=bytes(60),
                                   note="words %d and %d set to %d and %d" % (
                                       first, second, one, two))
     # Two nodes change places, one stands twice, or one is lost.
@@ -432,8 +446,9 @@ def sweeps():
             for changed in (swapped(example, one, other), copied(example, one, other)):
                 letter = letters[turn % len(letters)]
                 turn += 1
-                yield Request(letter, 77, R=three, N=nodes.words_of(changed), L=[1, 1, 3, 1],
-                              P=some_output(letter, 9), O=bytes(80),
+                yield Request(letter, tag_or_most(letter, 77), R=three,
+                              N=nodes.words_of(changed), L=[1, 1, 3, 1],
+                              **some_outputs(letter, 9), O=bytes(80),
                               note="nodes %d and %d" % (one, other))
 
 
@@ -524,7 +539,7 @@ def large():
                    (MOST_NODES + 1) * NODE_WORDS, (MOST_NODES - 1) * NODE_WORDS, ROOM["N"]):
         for letter in ALL_LETTERS:
             yield Request(letter, 7, R=parts_register(2), N=[0] * length, L=[1, 2],
-                          P=some_output(letter), O=bytes(60), note="%d words" % length)
+                          **some_outputs(letter), O=bytes(60), note="%d words" % length)
     everything = [word for place in range(1, MOST_SLOTS + 1) for word in (place, 15)]
     ones = [word for place in range(1, MOST_SLOTS + 1) for word in (place, 1)]
     lists = [[], [1, 1], [MOST_SLOTS, 1], [16, 1, 100, 1], [16, 1, 101, 1], ones, everything,
@@ -534,13 +549,15 @@ def large():
         list(range(2, 256, 2)) + list(range(255, 0, -2)))))
     for listed in lists:
         for letter in LIST_LETTERS:
-            yield Request(letter, 40000, R=full, N=siblings, L=listed, P=[9] * 300,
+            yield Request(letter, tag_or_most(letter, 40000), R=full, N=siblings, L=listed,
+                          P=[9] * 300, Q=[8] * 300,
                           note="255 siblings, list of %d words" % len(listed))
     for kind in LARGE_KINDS:
         words = large_table(kind)
         for listed in ([], [16, 1, 100, 1], everything, LONGEST_LIST):
             for letter in LIST_LETTERS:
-                yield Request(letter, 40000, R=full, N=words, L=listed, P=[9] * ROOM["P"],
+                yield Request(letter, tag_or_most(letter, 40000), R=full, N=words, L=listed,
+                              P=[9] * ROOM["P"], Q=[8] * ROOM["Q"],
                               note="4096 nodes, %s, list of %d words" % (kind, len(listed)))
         yield Request("k", 1, R=full, N=words, L=[255, 15], note="4096 nodes, tag taken")
         yield Request("k", 60001, R=full, N=words, L=[200, 1, 255, 15], note="4096 nodes, " + kind)

@@ -64,6 +64,15 @@ def included(need, have):
     return all(quantity <= have[place] for place, quantity in need.items())
 
 
+def shortfall(need, have):
+    """What a kit of these quantities lacks beside a bin of those.
+
+    "the sum over its parts of what it needs beyond the bin's quantity, never below zero for a
+    part", so that a surplus of one part never pays for another.
+    """
+    return sum(max(0, quantity - have[place]) for place, quantity in need.items())
+
+
 def listing_order(held):
     """Held kits (a row with its tag) in listing order.
 

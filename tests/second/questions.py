@@ -1,6 +1,6 @@
-"""The two questions on the kits held, by trying every kit against inclusion."""
+"""The questions on the kits held, by trying every kit."""
 
-from .kits import included, listing_order, quantities
+from .kits import included, listing_order, quantities, shortfall
 
 
 def within(held, row):
@@ -13,3 +13,10 @@ def containing(held, row):
     """The tags of all kits that contain this list, in listing order."""
     need = quantities(row)
     return [tag for kit, tag in listing_order(held) if included(need, quantities(kit))]
+
+
+def almost_filled(held, row, most):
+    """Tag and shortfall of "exactly those kits whose shortfall is at most d, in listing order"."""
+    have = quantities(row)
+    short = [(tag, shortfall(quantities(kit), have)) for kit, tag in listing_order(held)]
+    return [(tag, lacking) for tag, lacking in short if lacking <= most]

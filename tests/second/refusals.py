@@ -1,4 +1,4 @@
-"""The answer numbers of document 01's table, by name, and a refusal that carries one."""
+"""The answer numbers of documents 01 and 02, by name, and a refusal that carries one."""
 
 DONE = 0
 WRONG_LENGTH = 1
@@ -14,6 +14,8 @@ TAG_TAKEN = 10
 NOT_HELD = 11
 NO_ROOM = 12
 SHEET_AT_FAULT = 13
+# Request 1: "new 14, d above 64".
+TOO_FAR_SHORT = 14
 
 
 class Refusal(Exception):

@@ -1,6 +1,6 @@
 """The requests that the probe is tried with: fixed, by chance, and broken ones."""
 
-from . import index_requests, register_requests, sheet_requests
+from . import almost_requests, index_requests, register_requests, sheet_requests
 from .chance import Chance
 from .frame import (
     COUNT, REQUEST_BLOCKS, REQUEST_HEAD, ROOM, WORD_BLOCKS, Request, element_bytes)
@@ -10,20 +10,21 @@ from .frame import (
 MAKERS = [
     ("pln", register_requests),
     ("ekfdwcWC", index_requests),
+    ("a", almost_requests),
     ("sr", sheet_requests),
 ]
 
 # The blocks that each call uses; it must leave the others as they are.
 USES = {
     "e": "RN", "p": "RI", "l": "RI", "n": "RO", "k": "RNL", "f": "RNL", "d": "RNL", "w": "RNL",
-    "c": "RNL", "W": "RNLP", "C": "RNLP", "s": "RNO", "r": "RNI",
+    "c": "RNL", "W": "RNLP", "C": "RNLP", "a": "RNLPQ", "s": "RNO", "r": "RNI",
 }
 
 # The calls that use argument A; none uses B yet.
-USES_A = "nk"
+USES_A = "nka"
 
 # The calls with the most ways to go wrong are made more often.
-OFTEN = "kdWCr"
+OFTEN = "kdWCar"
 
 # Bytes outside the printable ones, tried as letters.
 OTHER_LETTERS = bytes([0, 1, 10, 13, 31, 127, 128, 255])

@@ -4,9 +4,12 @@ Their sheets must agree exactly when their contents do, and a sheet that is read
 catalogue is written again as it was.
 """
 
+from .almost_requests import some_question
+from .calls import MOST_SHORT
 from .carried import Catalogue, Contents, Different, empty_catalogue, expect
-from .index_requests import some_list, some_new_tag, some_room, some_row, some_tag
-from .kits import MOST_UNITS, lines_of, words_of
+from .index_requests import (
+    QUESTION_LETTERS, some_list, some_new_tag, some_room, some_row, some_tag)
+from .kits import MOST_UNITS, lines_of, listing_order, words_of
 from .nodes import NODE_WORDS
 from .refusals import DONE
 from .register import MOST_SLOTS, SLOT_BYTES
@@ -18,6 +21,9 @@ LONGEST_WAY = 2000
 # What the pairs count, so that a run shows that it had both kinds.
 ENDED_ALIKE = "pairs ended alike"
 ENDED_APART = "pairs ended apart"
+
+# And that questions for the kits that a bin almost fills found some that lack something.
+ALMOST_FILLED = "listings had kits almost filled"
 
 # Numbers that are against the rule.
 BAD_NUMBERS = [b"", b"a", b"A B", b"7" * 25, b"741\n", b"\0", b"A:"]
@@ -201,6 +207,15 @@ class Walk:
         room = some_room(self.chance, self.contents().kits) if letter in "WC" else 0
         self.catalogue.call(letter, L=self.some_list(), P=self.chance.some_words(room))
 
+    def almost_filled(self, letter):
+        """A bin, how much a kit may lack, and two outputs of about the room that is needed."""
+        own = self.catalogue.own
+        d, lent = some_question(self.chance, own["R"], own["N"], self.contents().kits,
+                                self.parts())
+        came = self.catalogue.call(letter, d, **lent)
+        lacking = came.blocks["Q"][:came.value] if came.done() else []
+        self.catalogue.door.seen[ALMOST_FILLED] += any(lacking)
+
     def some_list(self):
         """A list near what is held, sometimes at fault."""
         return some_list(self.chance, self.contents().kits, self.parts())
@@ -252,18 +267,20 @@ class Walk:
             letter, a, lent = self.chance.pick(useful)
             self.catalogue.call(letter, a, **lent)
             if self.chance.one_in(5):
-                self.question(self.chance.pick("wcWC"))
+                asked = self.chance.pick(QUESTION_LETTERS)
+                WAYS[asked](self, asked)
         if self.contents() != self.aim:
             raise Different(["the aim was not reached: %r" % self.aim,
                              "held: %r" % self.contents()])
 
 
 # The letters of a stray call, and how each is made.
-STRAY_LETTERS = "pppplnkkkkkkkkffdddwcWCsrr" * 2 + "e"
+STRAY_LETTERS = "pppplnkkkkkkkkffdddwcWCaasrr" * 2 + "e"
 WAYS = {
     "e": Walk.empty, "p": Walk.register, "l": Walk.look_up, "n": Walk.show, "k": Walk.insert,
     "f": Walk.take_list, "d": Walk.take_list, "w": Walk.question, "c": Walk.question,
-    "W": Walk.question, "C": Walk.question, "s": Walk.write, "r": Walk.read,
+    "W": Walk.question, "C": Walk.question, "a": Walk.almost_filled, "s": Walk.write,
+    "r": Walk.read,
 }
 
 
@@ -284,7 +301,19 @@ def brought_to(door, size, aim):
     wander(walk, chance.between(5, 60))
     walk.come_home()
     catalogue.check_contents()
+    list_all(catalogue)
     return catalogue
+
+
+def list_all(catalogue):
+    """A bin of nothing and d 64 list every kit, and each lacks all its units."""
+    kits = listing_order(catalogue.contents.kits)
+    came = catalogue.call("a", MOST_SHORT, P=[0] * len(kits), Q=[0] * len(kits))
+    expect(came, DONE, len(kits), "every kit beside a bin of nothing")
+    listed = list(zip(came.blocks["P"], came.blocks["Q"]))
+    if listed != [(tag, len(row)) for row, tag in kits]:
+        raise Different(["tags and shortfalls %s beside a bin of nothing; by calls and replies" %
+                         listed, "  %r" % catalogue.contents])
 
 
 def wander(walk, calls):

@@ -27,3 +27,29 @@ PRINTED_STEPS = [
     ([(1,), (1, 2)], WITHIN, (1, 2), [(1,), (1, 2)]),
     ([(1,)], WITHIN, (1, 1), [(1,)]),
 ]
+
+# Kits that a bin almost fills, worked out by hand: the kits held, the bin's units, the most that
+# a kit may lack, and the kits in order, each with its shortfall.
+ALMOST_CASES = [
+    ([], (1,), 64, []),
+    ([()], (), 0, [((), 0)]),
+    ([(), (1,)], (), 0, [((), 0)]),
+    ([(), (1,)], (), 1, [((), 0), ((1,), 1)]),
+    # 3 of part 1 and 1 of part 2 beside 2 of part 1 and 5 of part 3: one of each is lacking
+    ([(1, 1, 1, 2)], (1, 1, 3, 3, 3, 3, 3), 1, []),
+    ([(1, 1, 1, 2)], (1, 1, 3, 3, 3, 3, 3), 2, [((1, 1, 1, 2), 2)]),
+    # three of one part are lacking, then two of a part whose neighbours are there in plenty
+    ([(2, 2, 2, 2)], (2,), 2, []),
+    ([(2, 2, 2, 2)], (2,), 3, [((2, 2, 2, 2), 3)]),
+    ([(2, 2)], (1, 1, 1, 3, 3, 3), 1, []),
+    ([(2, 2)], (1, 1, 1, 3, 3, 3), 2, [((2, 2), 2)]),
+    # what is lacking stands first, in the middle, last
+    ([(1, 2, 2), (2, 2, 3), (2, 3, 3)], (2, 2, 3), 1,
+     [((1, 2, 2), 1), ((2, 2, 3), 0), ((2, 3, 3), 1)]),
+    ([(1, 2, 3), (1, 3), (2,)], (1, 3), 1, [((1, 2, 3), 1), ((1, 3), 0), ((2,), 1)]),
+    # a beginning lacks less than what goes on, and a beginning that is no kit is not listed
+    ([(1,), (1, 1), (1, 1, 1)], (1,), 1, [((1,), 0), ((1, 1), 1)]),
+    ([(1, 1, 2), (1, 3)], (), 2, [((1, 3), 2)]),
+    # behind a branch that lacks too much there is one that does not
+    ([(1, 1, 1), (1, 2), (2, 2)], (2,), 1, [((1, 2), 1), ((2, 2), 1)]),
+]

@@ -2,16 +2,16 @@
 use mathlib.Core.Path.{_≡_, refl, sym, ap, _∙_}
 use mathlib.Core.Logic.{_≢_}
 use mathlib.Core.Bool.{Bool, true, false}
-use mathlib.Core.List.{List, [], _∷_, _++_}
-use Prim.Native.Nat.{ℕ, _≤_}
+use mathlib.Core.List.{List, [], _∷_, _++_, append-assoc}
+use Prim.Native.Nat.{ℕ, _≤_, _<_}
 use native.Mathlib.Omega.{arith}
 use lib.ListN.{length}
 use lib.Dec.{ltb, leb}
 use borrow.Author.Tests.{leb-true, leb-false, lt-ltb, le-ltb, eq-eqb, ne-eqb}
 use Rattle.ground.specs.Lists.{isZero}
 use Rattle.ground.specs.Laid.{zeroed}
-use Rattle.ground.specs.Calls.{Case, given, Plan, plan, Reply, done, refused, isRefused, decide, answer, memory, Promise, setDown}
-use Rattle.ground.proofs.Calls.{promise-first, promise-front, promise-behind, promise-part, promise-refused, promise-done, first-refuses, first-passes, whole-refuses, whole-passes, set-down-behind}
+use Rattle.ground.specs.Calls.{Case, given, plan, Reply, done, refused, isRefused, decide, answer, Promise, setDown, Both, setBoth}
+use Rattle.ground.proofs.Calls.{promise-first, promise-front, promise-behind, promise-part, promise-refused, promise-done, first-refuses, first-passes, whole-refuses, whole-passes, set-down-behind, set-both-behind}
 use Rattle.kits.specs.Kits.{mostUnits, mostPlace, units, goodList, GoodRow, listFaults}
 use Rattle.kits.specs.Rows.{rowOf, unitsIn}
 use Rattle.kits.specs.declared.Row.{Row}
@@ -22,14 +22,14 @@ use Rattle.nodes.specs.Held.{Kit, held, tagIn}
 use Rattle.nodes.proofs.Held.{held-good}
 use Rattle.nodes.proofs.Listing.{tag-none}
 use Rattle.growing.specs.Enter.{enter, lacks}
-use Rattle.pruning.specs.Strike.{strike}
 use Rattle.index.specs.Index.{entryRefusals, insertingRow, missingRefusals, findingRow, deletingRow}
 use Rattle.questions.specs.Questions.{anyOf, allOf}
+use Rattle.shortfalls.specs.Shortfalls.{mostShort, almostTags, almostShorts, listAlmost}
 use Rattle.sheet.specs.Sheet.{encode}
 use Rattle.sheet.specs.Calls as sheet
 use Rattle.filling.specs.Read as filling
 use Rattle.lent.specs.Lent.{Tables, tables, partCount, lengths, lentBoth, lentList}
-use Rattle.catalogue.specs.Calls.{contents, emptying, inserting, finding, deleting, anyKit, allKits, writing, reading}
+use Rattle.catalogue.specs.Calls.{contents, emptying, inserting, finding, deleting, anyKit, allKits, almostKits, writing, reading}
 
 -- the row of a list that has room, as it is lent on by value
 module _ (w : Row) (l : List ℕ) (is : w ≡ rowOf (units l)) where
@@ -134,6 +134,25 @@ module _ (R N : List ℕ) where
         pub all-done : (o w : List ℕ) (s q : Reply) → isRefused r ≡ false → s ≡ q → Promise (setDown [] (allOf question l N) o) o q w → Promise (allKits question l (tables R N) o) o s w
         unfolding allKits
         all-done o w s q e same p = rw same (set-down-behind (lentList (tables R N) l) 0 (allOf question l N) o (whole-passes r _ 0 0 is e) p)
+
+      -- Kits that a bin almost fills
+      module _ (d : ℕ) (o : Both) where
+        pub almost-refused : isRefused r ≡ true → Promise (almostKits d l (tables R N) o) o r o
+        unfolding almostKits setBoth
+        almost-refused e = rw append-assoc (promise-front (lentList (tables R N) l) _ _ _ o r 0 is e)
+
+        pub almost-too-far : isRefused r ≡ false → mostShort < d → Promise (almostKits d l (tables R N) o) o (refused 14 0) o
+        unfolding almostKits setBoth answer
+        almost-too-far e h = rw append-assoc (promise-behind (lentList (tables R N) l) _ _ _ o (refused 14 0) o 0 (ap isRefused (sym is) ∙ e)
+            (promise-refused (plan _ _ _) o 14 0 (at-once (ltb mostShort d) 14 0 _ _ (lt-ltb mostShort d h))))
+
+        near-passes : isRefused r ≡ false → d ≤ mostShort → decide (lentList (tables R N) l ++ (given (ltb mostShort d) 14 0 ∷ [])) 0 ≡ done 0
+        unfolding decide
+        near-passes e h = first-passes r (lentList (tables R N) l) (given (ltb mostShort d) 14 0 ∷ []) 0 0 is e ∙ rw (le-ltb mostShort d h)
+
+        pub almost-done : (s q : Reply) (m : Both) → isRefused r ≡ false → d ≤ mostShort → s ≡ q → Promise (listAlmost [] d l N o) o q m → Promise (almostKits d l (tables R N) o) o s m
+        unfolding almostKits
+        almost-done s q m e h same p = rw same (set-both-behind (lentList (tables R N) l ++ (given (ltb mostShort d) 14 0 ∷ [])) 0 (almostTags d l N) (almostShorts d l N) o (near-passes e h) p)
 
     -- Inserting
     module _ (t : ℕ) (r : Reply) (is : r ≡ decide (lentBoth (tables R N)) 0) where

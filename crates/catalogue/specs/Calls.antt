@@ -1,13 +1,13 @@
 -- Document 01, "Calls and what they answer": the calls that are lent both tables, each as the list of its refusals in the paper's order, its value,
 -- and what it leaves in the memory that it may write.
 use mathlib.Core.Bool.{Bool}
-use mathlib.Core.List.{List, _∷_, _++_}
+use mathlib.Core.List.{List, [], _∷_, _++_}
 use Prim.Native.Nat.{ℕ}
 use lib.ListN.{length}
 use lib.Dec.{ltb}
 use Rattle.ground.specs.Lists.{isZero}
 use Rattle.ground.specs.Laid.{zeroed}
-use Rattle.ground.specs.Calls.{given, Plan, plan, Promise, setDown}
+use Rattle.ground.specs.Calls.{given, Plan, plan, Promise, setDown, Both}
 use Rattle.register.specs.Register.{slotCount}
 use Rattle.register.specs.Calls.{registering, lookingUp, showing}
 use Rattle.kits.specs.Kits.{mostUnits, units, listFaults}
@@ -17,6 +17,7 @@ use Rattle.growing.specs.Enter.{enter, lacks}
 use Rattle.pruning.specs.Strike.{strike}
 use Rattle.index.specs.Index.{entryRefusals, missingRefusals}
 use Rattle.questions.specs.Questions.{isWithin, isContaining, anyOf, allOf}
+use Rattle.shortfalls.specs.Shortfalls.{mostShort, listAlmost}
 use Rattle.sheet.specs.Sheet.{Contents, contentsOf, encode}
 use Rattle.sheet.specs.Reading.{decode, said}
 use Rattle.sheet.specs.Calls.{sheetRefusals}
@@ -63,6 +64,11 @@ anyKit question l T = plan (lentList T l) (anyOf question l (T .nodes)) T
 unfoldable pub allKits : (List ℕ → Kit → Bool) → List ℕ → Tables → List ℕ → Plan (List ℕ)
 allKits question l T o = setDown (lentList T l) (allOf question l (T .nodes)) o
 
+-- "list the tags of exactly those kits whose shortfall is at most d .. with the shortfall of each in a second lent output": "new 14, d above 64, after
+-- the list checks and before 12"
+unfoldable pub almostKits : ℕ → List ℕ → Tables → Both → Plan Both
+almostKits d l T o = listAlmost (lentList T l ++ (given (ltb mostShort d) 14 0 ∷ [])) d l (T .nodes) o
+
 -- "Write the sheet at the start of a lent output: bytes written"
 unfoldable pub writing : Tables → List ℕ → Plan (List ℕ)
 writing T o = setDown (lentBoth T) (encode (contents T)) o
@@ -90,6 +96,7 @@ pub data Call : Type 0 where
   insertKit : List ℕ → ℕ → Call
   findKit deleteKit anyWithin anyContaining : List ℕ → Call
   allWithin allContaining : List ℕ → List ℕ → Call
+  allAlmost : ℕ → List ℕ → Both → Call
   writeSheet readSheet : List ℕ → Call
 
 -- a call on the register alone
@@ -97,7 +104,7 @@ abbrev pub onRegister : Tables → Plan (List ℕ) → Plan Tables
 onRegister T p = plan (p .cases) (p .value) (tables (p .after) (T .nodes))
 
 -- a call that leaves the tables as they are
-abbrev pub apart : Tables → Plan (List ℕ) → Plan Tables
+abbrev pub apart : {A : Type 0} → Tables → Plan A → Plan Tables
 apart T p = plan (p .cases) (p .value) T
 
 unfoldable pub planOf : Call → Tables → Plan Tables
@@ -112,5 +119,6 @@ planOf (anyWithin l) T = anyKit isWithin l T
 planOf (anyContaining l) T = anyKit isContaining l T
 planOf (allWithin l o) T = apart T (allKits isWithin l T o)
 planOf (allContaining l o) T = apart T (allKits isContaining l T o)
+planOf (allAlmost d l o) T = apart T (almostKits d l T o)
 planOf (writeSheet o) T = apart T (writing T o)
 planOf (readSheet s) T = reading s T

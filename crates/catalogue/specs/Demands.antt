@@ -6,19 +6,21 @@ use mathlib.Core.Bool.{Bool, true}
 use mathlib.Core.List.{List, [], _∷_, _++_, List·Memᴰ}
 use Prim.Native.Nat.{ℕ, _+_, _*_, _^_, _≤_, _<_}
 use lib.ListN.{length, take, drop, getD, replicate}
+use lib.Dec.{ltb}
 use Rattle.ground.specs.Limits.{mostParts}
 use Rattle.ground.specs.Lists.{keep}
-use Rattle.ground.specs.Calls.{Plan, Reply, done, refused, valueOf, decide, answer, memory, Promise, Given, setDown}
+use Rattle.ground.specs.Calls.{given, Plan, Reply, done, refused, valueOf, decide, answer, memory, Promise, Given, setDown, Both, both, setBoth}
 use Rattle.register.specs.Register.{slotBytes}
 use Rattle.kits.specs.Kits.{Within, units, before, listFaults}
 use Rattle.nodes.specs.Nodes.{wordsPerNode, mostNodes, usedNodes}
 use Rattle.nodes.specs.Held.{Kit, inOrder, dropKit, tagIn, tagsOf, firstTag, listed, allBeginnings}
 use Rattle.questions.specs.Questions.{isWithin, isContaining, fitting}
+use Rattle.shortfalls.specs.Shortfalls.{mostShort, shortfall, isAlmost, shortsOf, OfOne}
 use Rattle.sheet.specs.Bytes.{Bytes, twoLimit}
 use Rattle.sheet.specs.Sheet.{Contents, encode}
 use Rattle.sheet.specs.Reading.{decode, said}
 use Rattle.lent.specs.Lent.{Tables, tables, lentList}
-use Rattle.catalogue.specs.Calls.{contents, Call, emptyBoth, registerPart, lookUp, showAt, insertKit, findKit, deleteKit, anyWithin, anyContaining, allWithin, allContaining, writeSheet, readSheet, planOf, inserting, anyKit, allKits, writing, reading}
+use Rattle.catalogue.specs.Calls.{contents, Call, emptyBoth, registerPart, lookUp, showAt, insertKit, findKit, deleteKit, anyWithin, anyContaining, allWithin, allContaining, allAlmost, writeSheet, readSheet, planOf, inserting, anyKit, allKits, almostKits, writing, reading}
 
 -- DEMAND 1
 -- "Every call ends and stays inside its memory for all inputs", "No call relies on the caller having looked first": no public call has a
@@ -36,22 +38,29 @@ RefusedExactly = (c : Call) (T : Tables) (n v : ℕ) → (answer (planOf c T) �
 abbrev pub RefusalKeeps : Type 0
 RefusalKeeps = (c : Call) (T : Tables) (n v : ℕ) → answer (planOf c T) ≡ refused n v → memory (planOf c T) T ≡ T
 
--- a question that is asked of a list and a kit: `isWithin` or `isContaining`
+-- a question that is asked of a list and a kit: `isWithin`, `isContaining` or `isAlmost d`
 abbrev pub Question : Type 0
 Question = List ℕ → Kit → Bool
 
--- the calls that set something down in an output: a listing, and the sheet
+-- the calls that set something down: a listing and the sheet in an output, the kits that a bin almost fills in two
 pub data SetsDown : Type 0 where
   listing : Question → List ℕ → SetsDown
+  listingAlmost : ℕ → List ℕ → SetsDown
   sheet : SetsDown
 
-unfoldable pub settingDown : SetsDown → Tables → List ℕ → Plan (List ℕ)
+abbrev pub Output : SetsDown → Type 0
+Output (listing question l) = List ℕ
+Output (listingAlmost d l) = Both
+Output sheet = List ℕ
+
+unfoldable pub settingDown : (x : SetsDown) → Tables → Output x → Plan (Output x)
 settingDown (listing question l) T o = allKits question l T o
+settingDown (listingAlmost d l) T o = almostKits d l T o
 settingDown sheet T o = writing T o
 
--- "the tables and output are byte for byte what they were": the output. Proof: Refusals, `refusal-keeps-output`
+-- "the tables and output are byte for byte what they were": the output, or both. Proof: Refusals, `refusal-keeps-output`
 abbrev pub RefusalKeepsOutput : Type 0
-RefusalKeepsOutput = (x : SetsDown) (T : Tables) (o : List ℕ) (n v : ℕ) → answer (settingDown x T o) ≡ refused n v → memory (settingDown x T o) o ≡ o
+RefusalKeepsOutput = (x : SetsDown) (T : Tables) (o : Output x) (n v : ℕ) → answer (settingDown x T o) ≡ refused n v → memory (settingDown x T o) o ≡ o
 
 -- WHAT A CATALOGUE HAS
 -- "what a catalogue has is what its accepted calls entered or read, less what later calls struck out, cleared or replaced by reading a sheet":
@@ -71,6 +80,7 @@ accepted (anyWithin l) m = m
 accepted (anyContaining l) m = m
 accepted (allWithin l o) m = m
 accepted (allContaining l o) m = m
+accepted (allAlmost d l o) m = m
 accepted (writeSheet o) m = m
 accepted (readSheet s) m = said (decode s)
 
@@ -198,6 +208,60 @@ listingOf question l m o = setDown (listFaults (length (m .parts)) l) (tagsOf (a
 abbrev pub AllAnswers : Type 0
 AllAnswers = (a : Catalogue) (question : Question) (l o : List ℕ) → Allowed a → (answer (allKits question l (tablesOf a) o) ≡ answer (listingOf question l (entered a) o)) × (memory (allKits question l (tablesOf a) o) o ≡ memory (listingOf question l (entered a) o) o)
 
+-- REQUEST 1, "a list of kits that a bin almost fills", in terms of what the accepted calls left: the kits are `answering (isAlmost d)`, so what is said
+-- above of every question holds of it, the fixed order and each kit once too.
+-- "exactly those kits whose shortfall is at most d". Proof: Almost, `answering-almost`
+abbrev pub AnsweringAlmost : Type 0
+AnsweringAlmost =
+    (d : ℕ) (bin : List ℕ) (m : Contents) (k : Kit) →
+    List·Memᴰ k (answering (isAlmost d) bin m) ↔ (List·Memᴰ k (m .kits) × (shortfall (units bin) (k .row) ≤ d))
+
+-- "with the shortfall of each in a second lent output": place by place of the same kit. Proof: Almost, `shown-in-step`
+abbrev pub ShownInStep : Type 0
+ShownInStep =
+    (bin : List ℕ) (ks : List Kit) (i : ℕ) → i < length ks →
+    OfOne bin ks (getD (tagsOf ks) i 0) (getD (shortsOf bin ks) i 0)
+
+-- with d = 0 they are the kits within the bin, and every shortfall is 0. Proof: Almost, `zero-is-within`
+abbrev pub ZeroIsWithin : Type 0
+ZeroIsWithin =
+    (a : Catalogue) (bin : List ℕ) → Allowed a →
+    let ks = answering (isAlmost 0) bin (entered a) in
+    (ks ≡ answering isWithin bin (entered a)) × (shortsOf (units bin) ks ≡ replicate (length ks) 0)
+
+-- with a greater d nothing leaves the listing: what is listed for d is what of the listing for e has a shortfall of at most d. Proof: Almost,
+-- `nothing-leaves`
+abbrev pub NothingLeaves : Type 0
+NothingLeaves =
+    (d e : ℕ) (bin : List ℕ) (m : Contents) → d ≤ e →
+    answering (isAlmost d) bin m ≡ keep (isAlmost d (units bin)) (answering (isAlmost e) bin m)
+
+-- with d = 64 every kit is listed. Proof: Almost, `most-is-all`
+abbrev pub MostIsAll : Type 0
+MostIsAll = (a : Catalogue) (bin : List ℕ) → Allowed a → answering (isAlmost mostShort) bin (entered a) ≡ inOrder (entered a .kits)
+
+-- the reply, and both outputs afterwards. Proof: Almost, `almost-answers`
+abbrev pub almostOf : ℕ → List ℕ → Contents → Both → Plan Both
+almostOf d bin m o =
+    let ks = answering (isAlmost d) bin m in
+    setBoth (listFaults (length (m .parts)) bin ++ (given (ltb mostShort d) 14 0 ∷ [])) (tagsOf ks) (shortsOf (units bin) ks) o
+
+abbrev pub AlmostAnswers : Type 0
+AlmostAnswers =
+    (a : Catalogue) (d : ℕ) (bin : List ℕ) (o : Both) → Allowed a →
+    (answer (almostKits d bin (tablesOf a) o) ≡ answer (almostOf d bin (entered a) o))
+    × (memory (almostKits d bin (tablesOf a) o) o ≡ memory (almostOf d bin (entered a) o) o)
+
+-- with room, what lies behind the answer stays, in both. Proof: Almost, `almost-shows`
+abbrev pub AlmostShows : Type 0
+AlmostShows =
+    (a : Catalogue) (d : ℕ) (bin o p : List ℕ) → Allowed a →
+    decide (listFaults (length (entered a .parts)) bin) 0 ≡ done 0 → d ≤ mostShort →
+    let ks = answering (isAlmost d) bin (entered a) in
+    length ks ≤ length o → length ks ≤ length p →
+    (answer (almostKits d bin (tablesOf a) (both o p)) ≡ done (length ks))
+    × (memory (almostKits d bin (tablesOf a) (both o p)) (both o p) ≡ both (tagsOf ks ++ drop (length ks) o) (shortsOf (units bin) ks ++ drop (length ks) p))
+
 -- DEMAND 3
 -- s is the sheet that a catalogue writes at the start of the output o, "with enough room to write its sheet"
 pub record Writes (T : Tables) (o s : List ℕ) : Type 0 where
@@ -236,7 +300,7 @@ abbrev pub TablesPinned : Type 0
 TablesPinned = (c : Call) (T U W : Tables) (r s : Reply) → Promise (planOf c T) T r U → Promise (planOf c T) T s W → (r ≡ s) × (U ≡ W)
 
 abbrev pub OutputPinned : Type 0
-OutputPinned = (x : SetsDown) (T : Tables) (o p q : List ℕ) (r s : Reply) → Promise (settingDown x T o) o r p → Promise (settingDown x T o) o s q → (r ≡ s) × (p ≡ q)
+OutputPinned = (x : SetsDown) (T : Tables) (o p q : Output x) (r s : Reply) → Promise (settingDown x T o) o r p → Promise (settingDown x T o) o s q → (r ≡ s) × (p ≡ q)
 
 -- "Made-up counts fall with the table": "nodes used are always 1 plus the number of different nonempty beginnings of held kits", and "nodes taken
 -- are the growth of the beginnings", in terms of the kits entered. (A listing's value is in `AllAnswers`; "kits read are the sheet's records", in

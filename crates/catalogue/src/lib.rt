@@ -1,14 +1,14 @@
 // Document 01, "Calls and what they answer": the calls that are lent both tables. None has a `requires`: each checks all that it is lent, in the
 // paper's order, and refuses. The work behind them is done by the crates below, on tables known to be sound.
 ghost use mathlib.Core.Path.{_≡_};
-ghost use Rattle.ground.specs.Calls.{answer};
+ghost use Rattle.ground.specs.Calls.{answer, SetsBoth};
 ghost use Rattle.questions.specs.Questions.{isWithin, isContaining, listedReply};
 ghost use Rattle.index.specs.Index.{foundReply, insertedReply, deletedReply};
 ghost use Rattle.writing.specs.Written.{writtenReply};
 ghost use Rattle.filling.specs.Read.{readReply};
 ghost use Rattle.lent.specs.Lent.{tables};
 ghost use Rattle.lent.specs.Answers.{reply};
-ghost use Rattle.catalogue.specs.Calls.{emptying, inserting, finding, deleting, anyKit, allKits, writing, reading, Leaves, Sets};
+ghost use Rattle.catalogue.specs.Calls.{emptying, inserting, finding, deleting, anyKit, allKits, almostKits, writing, reading, Leaves, Sets};
 use filling::ReadSheet;
 use ground::wide16;
 use index::Deleted;
@@ -21,6 +21,7 @@ use lent::check_lines;
 use lent::check_tables;
 use lent::refused;
 use questions::Listed;
+use shortfalls::MOST_SHORT;
 use writing::Written;
 
 // Empties both tables.
@@ -165,6 +166,28 @@ pub fn all_containing(reg: &[u8], nodes: &[u16], list: &[u16], out: &mut [u16]) 
         return lent;
     }
     listed_answer(questions::all_containing(nodes, list, out))
+}
+
+// All kits that the bin fills but for at most d units: their tags in listing order at the start of the one output, and the shortfall of each at the
+// same index of the other.
+pub fn all_almost(
+    reg: &[u8],
+    nodes: &[u16],
+    bin: &[u16],
+    d: u16,
+    tags: &mut [u16],
+    shorts: &mut [u16],
+) -> Answer
+    ensures { λ r. ⌜ SetsBoth (almostKits d (now (bin .entry)) (tables (now (reg .entry)) (now (nodes .entry)))) (now (tags .entry)) (now (shorts .entry)) (reply r) (now (tags .exit)) (now (shorts .exit)) ⌝ }
+{
+    let lent = check_lent(reg, nodes, bin);
+    if refused(lent) {
+        return lent;
+    }
+    if MOST_SHORT < d {
+        return Answer::TooFar;
+    }
+    listed_answer(shortfalls::all_almost(nodes, bin, d, tags, shorts))
 }
 
 fn written_answer(w: Written) -> Answer

@@ -1,7 +1,7 @@
 -- What a catalogue answers, in terms of what its accepted calls left: demand 2 from any list of calls.
 use mathlib.Core.Path.{_≡_, refl, sym, ap, subst}
 use mathlib.Core.Logic.{_↔_}
-use mathlib.Core.Bool.{true}
+use mathlib.Core.Bool.{Bool, true}
 use mathlib.Core.List.{List, [], _∷_, _++_, append-assoc, List·Memᴰ, List·Memᴰ·head}
 use Prim.Native.Nat.{ℕ, _<_}
 use native.Mathlib.Omega.{arith}
@@ -9,7 +9,7 @@ use lib.ListN.{length}
 use lib.Dec.{ltb}
 use Rattle.ground.specs.Lists.{keep}
 use Rattle.ground.specs.Laid.{laid}
-use Rattle.ground.specs.Calls.{Case, given, done, decide, answer, leaves, memory, setDown}
+use Rattle.ground.specs.Calls.{Case, given, done, decide, answer, leaves, memory, withRoom, setDown}
 use Rattle.ground.proofs.Calls.{decide-behind}
 use Rattle.kits.specs.Kits.{Within, units, listFaults}
 use Rattle.nodes.specs.Held.{Kit, inOrder, tagsOf, firstTag}
@@ -28,7 +28,7 @@ use Rattle.demands.proofs.Brought.{Brought, brought}
 
 -- the kits that answer
 module _ (question : Question) (Asks : List ℕ → Kit → Type 0) (asks : (u : List ℕ) (k : Kit) → (question u k ≡ true) ↔ Asks u k) (l : List ℕ) (m : Contents) where
-  answers-exactly : (k : Kit) → List·Memᴰ k (answering question l m) ↔ (List·Memᴰ k (m .kits) × Asks (units l) k)
+  pub answers-exactly : (k : Kit) → List·Memᴰ k (answering question l m) ↔ (List·Memᴰ k (m .kits) × Asks (units l) k)
   unfolding answering
   answers-exactly k = (
     λ i. let h = keep-mem (question (units l)) k (inOrder (m .kits)) i in (order-mem k (m .kits) (h .0), asks (units l) k .0 (h .1)),
@@ -57,22 +57,32 @@ module _ {T : Tables} {m : Contents} (b : Brought T m) where
   pub behind-tables : (cs : List Case) (v : ℕ) → decide (lentBoth T ++ cs) v ≡ decide cs v
   behind-tables cs v = decide-behind (lentBoth T) cs 0 v lent-good
 
-  -- a call that sets something down, behind what is refused of the tables
+  -- a call whose answer needs room, behind what is refused of the tables
+  module _ {A : Type 0} (cs : List Case) (short : Bool) (n : ℕ) (after old : A) where
+    pub room-answer : answer (withRoom (lentBoth T ++ cs) short n after) ≡ answer (withRoom cs short n after)
+    unfolding answer
+    room-answer = rw append-assoc (behind-tables (cs ++ (given short 12 n ∷ [])) n)
+
+    pub room-memory : memory (withRoom (lentBoth T ++ cs) short n after) old ≡ memory (withRoom cs short n after) old
+    unfolding memory
+    room-memory = ap (λ r. leaves r old after) room-answer
+
+  -- one that sets something down
   module _ (cs : List Case) (xs o : List ℕ) where
     pub down-answer : answer (setDown (lentBoth T ++ cs) xs o) ≡ answer (setDown cs xs o)
-    unfolding answer setDown
-    down-answer = rw append-assoc (behind-tables (cs ++ (given (ltb (length o) (length xs)) 12 (length xs) ∷ [])) (length xs))
+    unfolding setDown
+    down-answer = room-answer cs (ltb (length o) (length xs)) (length xs) (laid o 0 xs) o
 
     pub down-memory : memory (setDown (lentBoth T ++ cs) xs o) o ≡ memory (setDown cs xs o) o
-    unfolding memory setDown
-    down-memory = ap (λ r. leaves r o (laid o 0 xs)) down-answer
+    unfolding setDown
+    down-memory = room-memory cs (ltb (length o) (length xs)) (length xs) (laid o 0 xs) o
 
   module _ (question : Question) (l : List ℕ) where
-    the-fitting : fitting question l (T .nodes) ≡ answering question l m
+    pub the-fitting : fitting question l (T .nodes) ≡ answering question l m
     unfolding fitting answering
     the-fitting = ap (keep (question (units l))) (b .kits)
 
-    the-faults : listFaults (partCount T) l ≡ listFaults (length (m .parts)) l
+    pub the-faults : listFaults (partCount T) l ≡ listFaults (length (m .parts)) l
     the-faults = ap (λ (ps : List (List ℕ)). listFaults (length ps) l) (b .parts)
 
     pub any-answer : answer (anyKit question l T) ≡ decide (listFaults (length (m .parts)) l) (firstTag (answering question l m))

@@ -44,7 +44,7 @@ use Rattle.filling.proofs.Reading as filled
 use Rattle.filling.proofs.Listed.{Fits, fitting-fits, rising-earlier}
 use Rattle.lent.specs.Lent.{Tables, tables, partCount, lengths, lentBoth, lentList}
 use Rattle.lent.proofs.Lent.{list-passed}
-use Rattle.catalogue.specs.Calls.{Call, emptyBoth, registerPart, lookUp, showAt, insertKit, findKit, deleteKit, anyWithin, anyContaining, allWithin, allContaining, writeSheet, readSheet, planOf, emptying, inserting, finding, deleting, anyKit, reading}
+use Rattle.catalogue.specs.Calls.{Call, emptyBoth, registerPart, lookUp, showAt, insertKit, findKit, deleteKit, anyWithin, anyContaining, allWithin, allContaining, allAlmost, writeSheet, readSheet, planOf, emptying, inserting, finding, deleting, anyKit, reading}
 use Rattle.catalogue.specs.Demands as demand
 use Rattle.catalogue.specs.Demands.{has, listedIn, step, model, run, log, Catalogue, Allowed, begun, tablesOf, entered}
 use Rattle.demands.proofs.Model.{apart, order-same, every-dropped, dropped-apart, order-dropped}
@@ -310,6 +310,7 @@ done-keeps (anyWithin l) T m v y e b = b
 done-keeps (anyContaining l) T m v y e b = b
 done-keeps (allWithin l o) T m v y e b = b
 done-keeps (allContaining l o) T m v y e b = b
+done-keeps (allAlmost d l o) T m v y e b = b
 done-keeps (writeSheet o) T m v y e b = b
 done-keeps (readSheet s) T m v y e b = read-kept s T v (y .sheet s refl) e
 

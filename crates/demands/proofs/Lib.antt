@@ -5,6 +5,7 @@ pub mod Questions
 pub mod Brought
 pub mod Sizes
 pub mod Answers
+pub mod Almost
 pub mod Sheets
 pub mod Counts
 pub mod Told

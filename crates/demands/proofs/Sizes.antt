@@ -16,7 +16,7 @@ use Rattle.nodes.proofs.Sorted.{Every, also}
 use Rattle.index.proofs.Kept.{insert-length, delete-length}
 use Rattle.sheet.specs.Sheet.{Contents}
 use Rattle.lent.specs.Lent.{Tables, tables, partCount}
-use Rattle.catalogue.specs.Calls.{Call, emptyBoth, registerPart, lookUp, showAt, insertKit, findKit, deleteKit, anyWithin, anyContaining, allWithin, allContaining, writeSheet, readSheet, planOf, emptying, inserting, finding, deleting, anyKit}
+use Rattle.catalogue.specs.Calls.{Call, emptyBoth, registerPart, lookUp, showAt, insertKit, findKit, deleteKit, anyWithin, anyContaining, allWithin, allContaining, allAlmost, writeSheet, readSheet, planOf, emptying, inserting, finding, deleting, anyKit}
 use Rattle.catalogue.specs.Demands.{has, step, run, Catalogue, Allowed, begun, tablesOf}
 use Rattle.demands.proofs.Brought.{Brought, Typed, insertion, delete-held, what-was-read, call-keeps, begun-empty, all-typed}
 
@@ -44,6 +44,7 @@ done-alike (anyWithin l) T m v y e b = record { register = refl; nodes = refl }
 done-alike (anyContaining l) T m v y e b = record { register = refl; nodes = refl }
 done-alike (allWithin l o) T m v y e b = record { register = refl; nodes = refl }
 done-alike (allContaining l o) T m v y e b = record { register = refl; nodes = refl }
+done-alike (allAlmost d l o) T m v y e b = record { register = refl; nodes = refl }
 done-alike (writeSheet o) T m v y e b = record { register = refl; nodes = refl }
 done-alike (readSheet s) T m v y e b = let r = what-was-read s T v (y .sheet s refl) e in record { register = r .register-length; nodes = r .nodes-length }
 

@@ -26,12 +26,13 @@ use Rattle.questions.specs.Questions.{isWithin, isContaining}
 use Rattle.sheet.specs.Sheet.{Contents, nodesNeeded}
 use Rattle.lent.specs.Lent.{Tables, lengths, lentList}
 use Rattle.lent.proofs.Lent.{lengths-good}
-use Rattle.catalogue.specs.Calls.{Call, emptyBoth, registerPart, lookUp, showAt, insertKit, findKit, deleteKit, anyWithin, anyContaining, allWithin, allContaining, writeSheet, readSheet, planOf, emptying, inserting, finding, deleting, reading}
+use Rattle.catalogue.specs.Calls.{Call, emptyBoth, registerPart, lookUp, showAt, insertKit, findKit, deleteKit, anyWithin, anyContaining, allWithin, allContaining, allAlmost, writeSheet, readSheet, planOf, emptying, inserting, finding, deleting, reading}
 use Rattle.demands.specs.Told.{more, told, ToldExactly}
 use Rattle.demands.proofs.Model.{tag-order}
 use Rattle.demands.proofs.Brought.{Brought, brought}
 use Rattle.demands.proofs.Sizes.{sizes}
 use Rattle.demands.proofs.Answers.{behind-tables, any-answer, all-answer}
+use Rattle.demands.proofs.Almost.{almost-answer}
 use Rattle.demands.proofs.Sheets.{write-answer}
 use Rattle.demands.proofs.Counts.{as-many}
 
@@ -139,6 +140,7 @@ module _ {T : Tables} {m : Contents} (b : Brought T m) (slots room : ℕ) (hs : 
   call-told (anyContaining l) = any-answer b isContaining l
   call-told (allWithin l o) = all-answer b isWithin l o
   call-told (allContaining l o) = all-answer b isContaining l o
+  call-told (allAlmost d l o) = almost-answer b d l o
   call-told (writeSheet o) = write-answer b o
   call-told (readSheet s) = read-told s
 

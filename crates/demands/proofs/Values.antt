@@ -1,15 +1,15 @@
 -- "Each answer is a number (0 for done) and a value below 2^32": of every call, refused or done.
 use mathlib.Core.Path.{_≡_, refl, ap, _∙_}
 use mathlib.Core.Logic.{⊎-elim}
-use mathlib.Core.Bool.{Bool, true, false}
-use mathlib.Core.List.{List, [], _∷_, _++_, map, append-nil, List·Memᴰ, List·Memᴰ·head, List·Memᴰ·tail}
+use mathlib.Core.Bool.{true, false}
+use mathlib.Core.List.{List, [], _∷_, _++_, map, append-assoc, append-nil, List·Memᴰ, List·Memᴰ·head, List·Memᴰ·tail}
 use Prim.Native.Nat.{ℕ, suc, _+_, _*_, _≤_, _<_}
 use native.Mathlib.Nat.{suc-mul}
 use native.Mathlib.Omega.{arith}
 use lib.ListN.{length, getD, length-append, length-map}
 use borrow.Author.Tests.{not-false, ltb-false}
-use Rattle.ground.specs.Lists.{anyb, concat, keep, eqList, isZero}
-use Rattle.ground.specs.Calls.{Case, Reply, done, refused, isRefused, valueOf, decide, answer, setDown}
+use Rattle.ground.specs.Lists.{anyb, concat, eqList, isZero}
+use Rattle.ground.specs.Calls.{Case, Reply, done, refused, isRefused, valueOf, decide, answer, setDown, Both, setBoth}
 use Rattle.ground.proofs.Laws.{by-cond}
 use Rattle.ground.proofs.Calls.{whole-passes, done-passes}
 use Rattle.register.specs.Number.{goodNumber}
@@ -23,12 +23,13 @@ use Rattle.nodes.specs.Held.{Kit, held, tagIn, tagsOf, firstTag, beginnings, ad
 use Rattle.nodes.proofs.Lists.{zero-or}
 use Rattle.nodes.proofs.Sorted.{Every, none, also, every-append, keep-short, allb-mem}
 use Rattle.nodes.proofs.Decided.{sound-exactly}
-use Rattle.nodes.proofs.Listing.{tag-from}
+use Rattle.nodes.proofs.Listing.{tags-long, tag-from}
 use Rattle.linking.specs.Links.{childWith}
 use Rattle.growing.specs.Enter.{lacks}
 use Rattle.index.specs.Index.{entryRefusals, missingRefusals}
 use Rattle.questions.specs.Questions.{isWithin, isContaining, fitting, anyOf, allOf}
 use Rattle.questions.proofs.Meaning.{fitting-exactly}
+use Rattle.shortfalls.specs.Shortfalls.{isAlmost}
 use Rattle.sheet.specs.Bytes.{inBytes, two, twoLimit, Bytes}
 use Rattle.sheet.specs.Sheet.{Contents, contentsOf, placeBytes, numberItem, numberItems, recordItem, recordItems, encode, goodKit, nodesNeeded}
 use Rattle.sheet.specs.Reading.{decode, said}
@@ -39,7 +40,7 @@ use Rattle.filling.proofs.Reading.{said-again}
 use Rattle.filling.proofs.RoundTrip.{SmallTags, words-small, catalogue-fits}
 use Rattle.lent.proofs.Lent.{Lent, both-passed, lent-passed, few-parts}
 use Rattle.lent.specs.Lent.{Tables, tables, partCount, lengths, lentBoth, lentList}
-use Rattle.catalogue.specs.Calls.{emptyBoth, registerPart, lookUp, showAt, insertKit, findKit, deleteKit, anyWithin, anyContaining, allWithin, allContaining, writeSheet, readSheet, planOf, emptying, inserting, finding, deleting, anyKit, allKits, writing, reading}
+use Rattle.catalogue.specs.Calls.{emptyBoth, registerPart, lookUp, showAt, insertKit, findKit, deleteKit, anyWithin, anyContaining, allWithin, allContaining, allAlmost, writeSheet, readSheet, planOf, emptying, inserting, finding, deleting, anyKit, allKits, almostKits, writing, reading}
 use Rattle.catalogue.specs.Demands.{Question, ValuesFit}
 use Rattle.demands.proofs.Offsets.{fault-near}
 
@@ -75,11 +76,6 @@ first-small : (B : ℕ) (ks : List Kit) → 0 < B → ((k : Kit) → List·Mem�
 unfolding firstTag
 first-small B [] h f = h
 first-small B (k ∷ ks) h f = f k (List·Memᴰ·head refl)
-
-tags-long : (ks : List Kit) → length (tagsOf ks) ≡ length ks
-unfolding tagsOf
-tags-long [] = refl
-tags-long (k ∷ ks) = ap suc (tags-long ks)
 
 -- Items one behind the other
 concat-long : {A : Type 0} (f : A → List ℕ) (b : ℕ) (xs : List A) → ((x : A) → List·Memᴰ x xs → length (f x) ≤ b) → length (concat (map f xs)) ≤ length xs * b
@@ -244,9 +240,20 @@ module _ (R N : List ℕ) (words : (i : ℕ) → getD N i 0 < twoLimit) where
   unfolding answer anyKit anyOf
   any-small question l = small-end (lentList T l) _ (list-plain T l) (λ e. first-small limit (fitting question l N) some-limit (fitting-here (list-lent l e) question l))
 
+  few-fitting : (question : Question) (l : List ℕ) → isRefused (decide (lentList T l) 0) ≡ false → length (tagsOf (fitting question l N)) < limit
+  unfolding fitting
+  few-fitting question l e = omega (arith, tags-long (fitting question l N), keep-short (question (units l)) (held N), kits-here (list-lent l e))
+
   all-small : (question : Question) (l o : List ℕ) → valueOf (answer (allKits question l (tables R N) o)) < limit
   unfolding allKits allOf fitting
-  all-small question l o = down-small (lentList T l) _ o (list-plain T l) (λ e. omega (arith, tags-long (fitting question l N), keep-short (question (units l)) (held N), kits-here (list-lent l e)))
+  all-small question l o = down-small (lentList T l) _ o (list-plain T l) (few-fitting question l)
+
+  almost-small : (d : ℕ) (l : List ℕ) (o : Both) → valueOf (answer (almostKits d l (tables R N) o)) < limit
+  unfolding answer almostKits setBoth allOf fitting
+  almost-small d l o = rw append-assoc (small-front limit some-limit (lentList T l) _ _ (list-plain T l) (λ e.
+      small-step limit some-limit _ _ _ (λ _. some-limit) (λ _.
+      let few : length (tagsOf (fitting (isAlmost d) l N)) < limit = few-fitting (isAlmost d) l e in
+      small-step limit some-limit _ _ _ (λ _. few) (λ _. end-small _ few))))
 
   emptying-small : valueOf (answer (emptying (tables R N))) < limit
   unfolding answer emptying
@@ -298,5 +305,6 @@ values-fit (anyWithin l) T w b = any-small (T .register) (T .nodes) w isWithin l
 values-fit (anyContaining l) T w b = any-small (T .register) (T .nodes) w isContaining l
 values-fit (allWithin l o) T w b = all-small (T .register) (T .nodes) w isWithin l o
 values-fit (allContaining l o) T w b = all-small (T .register) (T .nodes) w isContaining l o
+values-fit (allAlmost d l o) T w b = almost-small (T .register) (T .nodes) w d l o
 values-fit (writeSheet o) T w b = writing-small (T .register) (T .nodes) w o
 values-fit (readSheet s) T w b = reading-small s T (b s refl)

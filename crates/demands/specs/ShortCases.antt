@@ -4,12 +4,12 @@ use mathlib.Core.Path.{_≡_}
 use mathlib.Core.List.{List, [], _∷_, _++_, map}
 use Prim.Native.Nat.{ℕ, suc}
 use lib.ListN.{length, replicate}
-use Rattle.ground.specs.Calls.{Reply, done, refused, answer, memory}
+use Rattle.ground.specs.Calls.{Reply, done, refused, answer, memory, Both, both}
 use Rattle.kits.specs.Kits.{listOf}
 use Rattle.nodes.specs.Nodes.{usedNodes}
 use Rattle.questions.specs.Questions.{isWithin, isContaining}
 use Rattle.lent.specs.Lent.{Tables}
-use Rattle.catalogue.specs.Calls.{Call, registerPart, insertKit, deleteKit, anyWithin, anyContaining, allKits, deleting, writing}
+use Rattle.catalogue.specs.Calls.{Call, registerPart, insertKit, deleteKit, anyWithin, anyContaining, allKits, almostKits, deleting, writing}
 use Rattle.catalogue.specs.Demands.{Question, log, tablesOf}
 
 -- kits inserted by their units, with the tags t, t + 1, ..
@@ -52,6 +52,23 @@ ShortCases =
     × (struck ((1 ∷ []) ∷ ((1 ∷ (2 ∷ [])) ∷ [])) (1 ∷ []) ≡ (done 1, 3))
     -- (1), (1, 2); delete (1, 2), nodes used; 2
     × (struck ((1 ∷ []) ∷ ((1 ∷ (2 ∷ [])) ∷ [])) (1 ∷ (2 ∷ [])) ≡ (done 2, 2))
+
+-- Request 1: the kits that units almost fill but for at most d, the reply and outputs of two places each
+unfoldable pub askedAlmost : ℕ → List (List ℕ) → List ℕ → Reply × Both
+askedAlmost d rs r =
+    let o = both (0 ∷ (0 ∷ [])) (9 ∷ (9 ∷ [])) in
+    let p = almostKits d (listOf r) (holding rs) o in
+    (answer p, memory p o)
+
+-- (1) and (1, 1, 1) lack one unit and three, and three units too many of another part pay for none; (1, 1) and (1, 3) lack one each, whichever part
+-- it is. Proof: proofs/ShortCases, `almost-cases`
+abbrev pub AlmostCases : Type 0
+AlmostCases =
+    (askedAlmost 0 ((1 ∷ []) ∷ ((1 ∷ (1 ∷ (1 ∷ []))) ∷ [])) (2 ∷ (2 ∷ (2 ∷ []))) ≡ (done 0, both (0 ∷ (0 ∷ [])) (9 ∷ (9 ∷ []))))
+    × (askedAlmost 2 ((1 ∷ []) ∷ ((1 ∷ (1 ∷ (1 ∷ []))) ∷ [])) (2 ∷ (2 ∷ (2 ∷ []))) ≡ (done 1, both (1 ∷ (0 ∷ [])) (1 ∷ (9 ∷ []))))
+    × (askedAlmost 3 ((1 ∷ []) ∷ ((1 ∷ (1 ∷ (1 ∷ []))) ∷ [])) (2 ∷ (2 ∷ (2 ∷ []))) ≡ (done 2, both (1 ∷ (2 ∷ [])) (1 ∷ (3 ∷ []))))
+    × (askedAlmost 1 ((1 ∷ (1 ∷ [])) ∷ ((1 ∷ (3 ∷ [])) ∷ [])) (1 ∷ (2 ∷ [])) ≡ (done 2, both (1 ∷ (2 ∷ [])) (1 ∷ (1 ∷ []))))
+    × (askedAlmost 65 ((1 ∷ []) ∷ []) (1 ∷ []) ≡ (refused 14 0, both (0 ∷ (0 ∷ [])) (9 ∷ (9 ∷ []))))
 
 -- Document 01, "The desk program": the worked example as calls, with room for four parts and six nodes
 unfoldable pub entries : List Call

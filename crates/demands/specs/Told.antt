@@ -16,8 +16,8 @@ use Rattle.questions.specs.Questions.{isWithin, isContaining}
 use Rattle.sheet.specs.Sheet.{Contents, encode, nodesNeeded}
 use Rattle.sheet.specs.Reading.{decode, said}
 use Rattle.sheet.specs.Calls.{sheetRefusals}
-use Rattle.catalogue.specs.Calls.{Call, emptyBoth, registerPart, lookUp, showAt, insertKit, findKit, deleteKit, anyWithin, anyContaining, allWithin, allContaining, writeSheet, readSheet, planOf}
-use Rattle.catalogue.specs.Demands.{has, Catalogue, Allowed, tablesOf, entered, listedIn, answering, listingOf}
+use Rattle.catalogue.specs.Calls.{Call, emptyBoth, registerPart, lookUp, showAt, insertKit, findKit, deleteKit, anyWithin, anyContaining, allWithin, allContaining, allAlmost, writeSheet, readSheet, planOf}
+use Rattle.catalogue.specs.Demands.{has, Catalogue, Allowed, tablesOf, entered, listedIn, answering, listingOf, almostOf}
 
 -- with a kit more
 abbrev pub more : Contents → List ℕ → ℕ → Contents
@@ -47,6 +47,7 @@ told slots room m (anyWithin l) = decide (listFaults (length (m .parts)) l) (fir
 told slots room m (anyContaining l) = decide (listFaults (length (m .parts)) l) (firstTag (answering isContaining l m))
 told slots room m (allWithin l o) = answer (listingOf isWithin l m o)
 told slots room m (allContaining l o) = answer (listingOf isContaining l m o)
+told slots room m (allAlmost d l o) = answer (almostOf d l m o)
 told slots room m (writeSheet o) = answer (setDown [] (encode (listedIn m)) o)
 told slots room m (readSheet s) = decide (sheetRefusals s slots room) (length (said (decode s) .kits))
 

@@ -1,5 +1,6 @@
 -- What each kind of line answers: from the promises of the calls and the bytes set down to the desk's definitions.
 use mathlib.Core.Path.{_≡_, refl, ap, sym, _∙_}
+use mathlib.Core.Logic.{⊎-elim}
 use mathlib.Core.Bool.{true, false}
 use mathlib.Core.List.{List, [], _∷_, _++_}
 use Prim.Native.Nat.{ℕ, _≤_}
@@ -21,7 +22,7 @@ use Rattle.lent.specs.Lent.{Tables, tables}
 use Rattle.catalogue.specs.Calls.{onRegister, inserting, finding, deleting, anyKit, allKits, writing}
 use Rattle.lent.specs.Answers.{reply}
 use Rattle.lent.specs.declared.Answer.{Answer}
-use Rattle.lent.specs.declared.Answer.the-variants as answered
+use Rattle.lent.proofs.Answers.{done-or-refused}
 use Rattle.desk_text.specs.Amounts.{amountOf}
 use Rattle.desk_text.specs.Letters as letter
 use Rattle.desk_text.specs.Lines.{goodLine, fieldsOf}
@@ -214,34 +215,10 @@ words-inside res n m e h = let q : wordsRead res ≡ n = ap wordsRead e in omega
 
 -- an answer whose number is 0 is done, and every other is refused
 pub zero-done : (a : Answer) → numberOf (reply a) ≡ 0 → reply a ≡ done (valueOf (reply a))
-zero-done (answered.Done v) e = refl
-zero-done answered.WrongLength e = absurd (omega arith)
-zero-done answered.NotSound e = absurd (omega arith)
-zero-done (answered.Unordered k) e = absurd (omega arith)
-zero-done (answered.Unregistered k) e = absurd (omega arith)
-zero-done (answered.Amount k) e = absurd (omega arith)
-zero-done answered.TooMany e = absurd (omega arith)
-zero-done answered.NoTag e = absurd (omega arith)
-zero-done (answered.Held t) e = absurd (omega arith)
-zero-done answered.TagBorne e = absurd (omega arith)
-zero-done answered.NotHeld e = absurd (omega arith)
-zero-done (answered.NoRoom v) e = absurd (omega arith)
-zero-done (answered.Fault o) e = absurd (omega arith)
+zero-done a e = ⊎-elim (λ d. d) (λ r. absurd (omega (arith, r .0))) (done-or-refused a)
 
 other-refused : (a : Answer) → (numberOf (reply a) ≡ 0 → ⊥) → reply a ≡ refused (numberOf (reply a)) (valueOf (reply a))
-other-refused (answered.Done v) h = absurd (h refl)
-other-refused answered.WrongLength h = refl
-other-refused answered.NotSound h = refl
-other-refused (answered.Unordered k) h = refl
-other-refused (answered.Unregistered k) h = refl
-other-refused (answered.Amount k) h = refl
-other-refused answered.TooMany h = refl
-other-refused answered.NoTag h = refl
-other-refused (answered.Held t) h = refl
-other-refused answered.TagBorne h = refl
-other-refused answered.NotHeld h = refl
-other-refused (answered.NoRoom v) h = refl
-other-refused (answered.Fault o) h = refl
+other-refused a h = ⊎-elim (λ d. absurd (h (ap numberOf d))) (λ r. r .1) (done-or-refused a)
 
 module _ (a : Answer) (o : List ℕ) where
   -- refused: nothing behind the value

@@ -63,6 +63,7 @@ pub fn call(
         b'c' => tells(catalogue::any_containing(reg, nodes, list)),
         b'W' => tells(catalogue::all_within(reg, nodes, list, places)),
         b'C' => tells(catalogue::all_containing(reg, nodes, list, places)),
+        b'a' => tells(catalogue::all_almost(reg, nodes, list, ask.a, places, seconds)),
         b's' => tells(catalogue::write_sheet(reg, nodes, output)),
         b'r' => tells(catalogue::read_sheet(reg, nodes, input)),
         _ => Called::Unknown,

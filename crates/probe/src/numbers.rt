@@ -1,6 +1,5 @@
 // Numbers as bytes, the high byte first.
-ghost use mathlib.Core.Path.{_≡_};
-ghost use Prim.Native.Nat.{_+_, _*_, _≤_, min};
+ghost use Prim.Native.Nat.{_+_, _*_, _≤_};
 ghost use lib.ListN.{length};
 
 // The bytes of a count or of one of an answer's values.
@@ -8,12 +7,6 @@ pub const LONG_BYTES: usize = 4;
 
 // How many words go through `io::buffer()` at once.
 pub const WORDS_AT_ONCE: usize = 2048;
-
-pub fn least(a: usize, b: usize) -> usize
-    ensures { λ r. ⌜ r ≡ min a b ⌝ }
-{
-    if a < b { a } else { b }
-}
 
 // The number that two bytes are.
 pub fn word(high: u8, low: u8) -> u16 {

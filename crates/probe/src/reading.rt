@@ -3,11 +3,11 @@ ghost use Prim.Native.Nat.{_≤_};
 ghost use lib.ListN.{length};
 use crate::numbers::LONG_BYTES;
 use crate::numbers::WORDS_AT_ONCE;
-use crate::numbers::least;
 use crate::numbers::long;
 use crate::numbers::put_words;
 use crate::numbers::word;
 use crate::writing::write_broken;
+use ground::least;
 use libc::STDIN_FILENO;
 
 const HEAD_BYTES: usize = 5;

@@ -5,10 +5,10 @@ use crate::calls::Told;
 use crate::calls::shown;
 use crate::numbers::LONG_BYTES;
 use crate::numbers::WORDS_AT_ONCE;
-use crate::numbers::least;
 use crate::numbers::put_bytes;
 use crate::numbers::put_long;
 use crate::reading::Request;
+use ground::least;
 use libc::STDOUT_FILENO;
 
 const HEAD_BYTES: usize = 13;

@@ -37,6 +37,8 @@ const NO_ROOM: u8 = 12;
 
 const FAULT: u8 = 13;
 
+const TOO_FAR: u8 = 14;
+
 // A number, 0 for done, and a value.
 pub struct Reply {
     pub number: u8,
@@ -115,5 +117,6 @@ pub fn answer_reply(a: Answer) -> Reply
         Answer::NotHeld => refused(NOT_HELD, 0),
         Answer::NoRoom(v) => refused(NO_ROOM, v),
         Answer::Fault(o) => refused(FAULT, o),
+        Answer::TooFar => refused(TOO_FAR, 0),
     }
 }

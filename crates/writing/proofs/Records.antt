@@ -24,6 +24,7 @@ use Rattle.nodes.specs.Nodes.{tag, child, next, parent, label, depth, tagged, s
 use Rattle.nodes.specs.Sound.{Shape, Used, Live}
 use Rattle.nodes.specs.Walk.{walk, walkAll}
 use Rattle.nodes.specs.Held.{Kit, kitAt}
+use Rattle.nodes.proofs.Sorted.{keep-append}
 use Rattle.nodes.proofs.Walk.{walk-none, walk-some}
 use Rattle.nodes.proofs.Rows.{climb, row-step, row-length, deep-used, parent-live, row-good, live-inside}
 use Rattle.sheet.specs.Bytes.{inBytes, two}
@@ -37,15 +38,6 @@ records-both : (w : ℕ) (a b : List Kit) → recordItems w (a ++ b) ≡ recordI
 unfolding recordItems concat
 records-both w [] b = refl
 records-both w (k ∷ a) b = rw (append-assoc) (ap (λ (x : List ℕ). recordItem w k ++ x) (records-both w a b))
-
-keep-append : (p : ℕ → Bool) (a b : List ℕ) → keep p (a ++ b) ≡ keep p a ++ keep p b
-unfolding keep
-keep-append p [] b = refl
-keep-append p (x ∷ a) b = go (p x) (keep-append p a b)
-  where
-    go : (t : Bool) → keep p (a ++ b) ≡ keep p a ++ keep p b → cond t (x ∷ keep p (a ++ b)) (keep p (a ++ b)) ≡ cond t (x ∷ keep p a) (keep p a) ++ keep p b
-    go true e = ap (_∷_ x) e
-    go false e = e
 
 module _ (N : List ℕ) where
   pub records-append : (a b : List ℕ) → recordsAt N (a ++ b) ≡ recordsAt N a ++ recordsAt N b

@@ -102,6 +102,12 @@ enum-known-a-7 c = search needs
 refused-requires-12 : tie.Need-refused-requires-12
 refused-requires-12 c κs = search needs
 
+enum-told-7 : tie.Need-enum-told-7
+enum-told-7 c = search needs
+
+refused-requires-13 : tie.Need-refused-requires-13
+refused-requires-13 c κs = search needs
+
 returns : tie.Need-returns
 returns c = search needs
 
@@ -141,6 +147,9 @@ returns-12 c = search needs
 returns-13 : tie.Need-returns-13
 returns-13 c = search needs
 
+returns-14 : tie.Need-returns-14
+returns-14 c = search needs
+
 pub answer-reply-spec : {M : Type 1} → statement M
 answer-reply-spec =
     tie.close
@@ -175,6 +184,8 @@ answer-reply-spec =
     refused-requires-11
     enum-known-a-7
     refused-requires-12
+    enum-told-7
+    refused-requires-13
     returns
     returns-2
     returns-3
@@ -187,4 +198,5 @@ answer-reply-spec =
     returns-10
     returns-11
     returns-12
-    returns-13)
+    returns-13
+    returns-14)

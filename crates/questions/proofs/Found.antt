@@ -1,0 +1,115 @@
+-- The nodes that a walk finds, whatever its test: one step of it, where it may stop, how many there are, and which kits they are.
+use mathlib.Core.Path.{_≡_, refl, sym, ap, _∙_}
+use mathlib.Core.Bool.{Bool, true, false, cond, not, _&&_}
+use mathlib.Core.List.{List, [], _∷_, _++_, map, append-assoc, append-nil, List·Memᴰ}
+use Prim.Native.Nat.{ℕ, zero, suc, _+_, _≤_, _<_}
+use native.Mathlib.Omega.{arith}
+use lib.ListN.{length}
+use lib.Dec.{eqb}
+use borrow.Author.Tests.{ne-eqb}
+use Rattle.ground.specs.Lists.{keep, from}
+use Rattle.ground.proofs.Laws.{length-from}
+use Rattle.nodes.specs.Nodes.{parent, child, next, label, tag, tagged, size, rowOf}
+use Rattle.nodes.specs.Sound.{Used, Live, Shape}
+use Rattle.nodes.specs.Walk.{walk, walkAll}
+use Rattle.nodes.specs.Held.{Kit, tagsOf, kitAt, held}
+use Rattle.nodes.proofs.Sorted.{keep-append, keep-same, keep-short, no-longer, mem-from}
+use Rattle.nodes.proofs.Rows.{climb, used-pos, live-inside, row-step}
+use Rattle.nodes.proofs.Walk.{walk-none, walk-some, ind}
+use Rattle.nodes.proofs.Order.{walk-once, walk-only}
+use Rattle.nodes.proofs.Held.{held-is-walk}
+use Rattle.questions.specs.Walks.{answers, foundFrom, foundIn, ifTag}
+
+-- a word of node i with the tag t, where the test b says yes
+kept-word : (f : ℕ → ℕ) (i : ℕ) (b : Bool) (t : ℕ) → map f (cond (b && not (eqb t 0)) (i ∷ []) []) ≡ ifTag (cond b t 0) (f i)
+unfolding ifTag
+kept-word f i true zero = refl
+kept-word f i true (suc t) = rw (ne-eqb (suc t) 0 (λ q. omega arith))
+kept-word f i false t = refl
+
+module _ {parts : ℕ} {N : List ℕ} (S : Shape parts N) (test : List ℕ → Bool) where
+  -- the node itself, where a kit ends there that passes
+  abbrev pub ownOf : ℕ → List ℕ
+  ownOf i = keep (answers test N) (i ∷ [])
+
+  pub own-word : (f : ℕ → ℕ) (i : ℕ) → map f (keep (answers test N) (i ∷ [])) ≡ ifTag (cond (test (rowOf N i)) (tag N i) 0) (f i)
+  unfolding keep answers tagged
+  own-word f i = kept-word f i (test (rowOf N i)) (tag N i)
+
+  own-dead : (i : ℕ) → ((s : List ℕ) → test (rowOf N i ++ s) ≡ false) → ownOf i ≡ []
+  unfolding keep answers
+  own-dead i e = rw (ap test (sym (append-nil (rowOf N i))) ∙ e [])
+
+  pub found-none : foundFrom test N 0 ≡ []
+  unfolding foundFrom keep
+  found-none = rw (walk-none S)
+
+  -- one step: its own, what is below, what is behind
+  pub found-step : (i : ℕ) → Used N i → foundFrom test N i ≡ keep (answers test N) (i ∷ []) ++ (foundFrom test N (child N i) ++ foundFrom test N (next N i))
+  unfolding foundFrom
+  found-step i u =
+      ap (keep (answers test N)) (walk-some S i u)
+      ∙ keep-append (answers test N) (i ∷ []) (walk N (child N i) ++ walk N (next N i))
+      ∙ ap (λ l. ownOf i ++ l) (keep-append (answers test N) (walk N (child N i)) (walk N (next N i)))
+
+  -- the whole walk: the root first
+  pub found-root : foundIn test N ≡ keep (answers test N) (0 ∷ []) ++ foundFrom test N (child N 0)
+  unfolding foundIn foundFrom walkAll
+  found-root = keep-append (answers test N) (0 ∷ []) (walk N (child N 0))
+
+  -- no more than the table has nodes
+  pub found-few : length (foundIn test N) ≤ size N
+  unfolding foundIn
+  found-few = omega (
+    arith,
+    keep-short (answers test N) (walkAll N),
+    length-from 0 (size N),
+    no-longer (walkAll N) (from 0 (size N)) (walk-once S) (λ i m. mem-from (size N) 0 i (omega arith) (omega (arith, live-inside (climb S) i (walk-only S i m)))),
+  )
+
+  -- where no row passes that goes on from the node above with a label of at least this one, none does here, below or behind
+  pub found-dead : (i : ℕ) → Live N i → (0 < i → (x : ℕ) (s : List ℕ) → label N i ≤ x → x ≤ parts → test (rowOf N (parent N i) ++ (x ∷ s)) ≡ false) → foundFrom test N i ≡ []
+  found-dead i l =
+      ind S (λ (i : ℕ). (0 < i → (x : ℕ) (s : List ℕ) → label N i ≤ x → x ≤ parts → test (rowOf N (parent N i) ++ (x ∷ s)) ≡ false) → foundFrom test N i ≡ [])
+      (λ h. found-none)
+      (λ i u c n h.
+      let p = used-pos (climb S) i u in
+      let e : (s : List ℕ) → test (rowOf N i ++ s) ≡ false =
+      λ s. ap test (ap (λ r. r ++ s) (row-step (climb S) i u) ∙ append-assoc (rowOf N (parent N i)) (label N i ∷ []) s) ∙ h p (label N i) s (omega arith) (S .good i u .place) in
+      let below : foundFrom test N (child N i) ≡ [] = c (λ q x s g b. ap (λ r. test (r ++ (x ∷ s))) (ap (rowOf N) (S .head i (u .inside) .back q)) ∙ e (x ∷ s)) in
+      let behind : foundFrom test N (next N i) ≡ [] = n (λ q x s g b. ap (λ r. test (r ++ (x ∷ s))) (ap (rowOf N) (S .good i u .same q)) ∙ h p x s (omega (arith, S .good i u .greater q)) b) in
+      rw (found-step i u, own-dead i e, below, behind))
+      i l
+
+  -- where no row passes that goes on from a node, what is found is behind it
+  pub found-past : (i : ℕ) → Used N i → ((s : List ℕ) → test (rowOf N i ++ s) ≡ false) → foundFrom test N i ≡ foundFrom test N (next N i)
+  found-past i u e =
+      let below : foundFrom test N (child N i) ≡ [] = found-dead (child N i) (λ q. S .head i (u .inside) .first q) (λ q x s g b. ap (λ r. test (r ++ (x ∷ s))) (ap (rowOf N) (S .head i (u .inside) .back q)) ∙ e (x ∷ s)) in
+      rw (found-step i u, own-dead i e, below)
+
+-- From nodes to kits: a test of rows, on kits
+onRow : (List ℕ → Bool) → Kit → Bool
+onRow test k = test (k .row)
+
+walk-kits : (test : List ℕ → Bool) (N xs : List ℕ) → keep (onRow test) (map (kitAt N) (keep (tagged N) xs)) ≡ map (kitAt N) (keep (answers test N) xs)
+unfolding keep kitAt answers onRow
+walk-kits test N [] = refl
+walk-kits test N (x ∷ xs) = go (test (rowOf N x)) (tagged N x) refl (walk-kits test N xs)
+  where
+    go : (b c : Bool) → test (rowOf N x) ≡ b →
+        keep (onRow test) (map (kitAt N) (keep (tagged N) xs)) ≡ map (kitAt N) (keep (answers test N) xs) →
+        keep (onRow test) (map (kitAt N) (cond c (x ∷ keep (tagged N) xs) (keep (tagged N) xs))) ≡ map (kitAt N) (cond (b && c) (x ∷ keep (answers test N) xs) (keep (answers test N) xs))
+    go true true e h = rw e (ap (_∷_ (kitAt N x)) h)
+    go true false e h = h
+    go false true e h = rw e h
+    go false false e h = h
+
+-- the kits held that answer are those at the nodes found
+pub kits-found : {parts : ℕ} {N : List ℕ} → Shape parts N → (test : List ℕ → Bool) (q : Kit → Bool) → ((k : Kit) → List·Memᴰ k (held N) → q k ≡ test (k .row)) → keep q (held N) ≡ map (kitAt N) (foundIn test N)
+unfolding foundIn onRow
+kits-found {N = N} S test q f = keep-same q (onRow test) (held N) f ∙ ap (keep (onRow test)) (held-is-walk S) ∙ walk-kits test N (walkAll N)
+
+pub tags-at : (N xs : List ℕ) → tagsOf (map (kitAt N) xs) ≡ map (tag N) xs
+unfolding tagsOf kitAt
+tags-at N [] = refl
+tags-at N (x ∷ xs) = ap (_∷_ (tag N x)) (tags-at N xs)

@@ -1,0 +1,180 @@
+-- The walk for a shortfall: what it knows at each node, and what it may leave out.
+use mathlib.Core.Path.{_≡_, sym, ap, ap₂, _∙_}
+use mathlib.Core.Bool.{true, false, cond}
+use mathlib.Core.List.{List, [], _∷_, _++_, map}
+use Prim.Native.Nat.{ℕ, _+_, _≤_, _<_}
+use native.Mathlib.Omega.{arith}
+use lib.ListN.{length, length-append, length-map}
+use borrow.Author.Tests.{le-leb, lt-leb}
+use Rattle.ground.specs.Lists.{keep}
+use Rattle.kits.specs.Kits.{mostPlace}
+use Rattle.nodes.specs.Nodes.{mostNodes, parent, child, next, label, tag, size, rowOf}
+use Rattle.nodes.specs.Sound.{Used, Shape}
+use Rattle.nodes.specs.Walk.{rank}
+use Rattle.nodes.proofs.Rows.{climb, row-root, row-step}
+use Rattle.nodes.proofs.Walk.{root-inside, root-child, child-live, child-less, next-less}
+use Rattle.questions.specs.Walks.{answers, foundFrom, foundIn, ifTag, someTag}
+use Rattle.questions.proofs.Found.{own-word, found-none, found-step, found-root, found-few, found-past}
+use Rattle.shortfalls.specs.declared.Passed.{Passed}
+use Rattle.shortfalls.specs.Shortfalls.{mostShort}
+use Rattle.shortfalls.specs.Inner.{nonePassed, after, along, shortIn, almost, shortAt, WroteBoth, WroteNodes, AtLink}
+use Rattle.shortfalls.proofs.Along.{along-append, along-next, along-least}
+use Rattle.shortfalls.proofs.Written.{both-same, nodes-on, nodes-same}
+
+-- a row passes exactly when its shortfall does not pass d, and what begins with one that does not pass does not
+almost-yes : (Q : List ℕ) (d : ℕ) (r : List ℕ) → along Q nonePassed r .short ≤ d → almost Q d r ≡ true
+unfolding almost shortIn
+almost-yes Q d r h = le-leb (along Q nonePassed r .short) d h
+
+almost-no : (Q : List ℕ) (d : ℕ) (r s : List ℕ) → d < along Q nonePassed r .short → almost Q d (r ++ s) ≡ false
+unfolding almost shortIn
+almost-no Q d r s h =
+    let e : along Q nonePassed (r ++ s) .short ≡ along Q (along Q nonePassed r) s .short = ap (λ (p : Passed). p .short) (along-append Q nonePassed r s) in
+    lt-leb (along Q nonePassed (r ++ s) .short) d (omega (arith, along-least Q (along Q nonePassed r) s))
+
+-- What the walk knows once it has read the label l of the node that it came to; t is its measure
+pub record Seen (N Q : List ℕ) (d at : ℕ) (p : Passed) (l t : ℕ) : Type 0 where
+  pub knows : AtLink N Q d at p
+  pub measured : rank N at ≡ t
+  pub node : at ≡ 0 → ⊥
+  pub l-is : l ≡ label N at
+
+pub link-inside : {N Q : List ℕ} {d at : ℕ} {p : Passed} → AtLink N Q d at p → (at ≡ 0 → ⊥) → at < size N
+link-inside A n = A .live (omega arith) .inside
+
+pub none-at : {N Q : List ℕ} {d at : ℕ} {p : Passed} → AtLink N Q d at p → at ≡ 0 → foundFrom (almost Q d) N at ≡ []
+none-at {N} {Q} {d} A e = ap (foundFrom (almost Q d) N) e ∙ found-none (A .shape) (almost Q d)
+
+module _ {N Q : List ℕ} {d at : ℕ} {p : Passed} {l t : ℕ} (v : Seen N Q d at p l t) where
+  pos : 0 < at
+  pos = let n = v .node in omega arith
+
+  here : Used N at
+  here = v .knows .live pos
+
+  pub in-table : at < size N
+  in-table = here .inside
+
+  pub may-pass : (l ≤ mostPlace) × (p .short ≤ mostShort)
+  may-pass = (omega (arith, v .l-is, v .knows .shape .good at here .place), omega (arith, v .knows .few, v .knows .most))
+
+  pub to-next : {m : ℕ} → m ≡ next N at → (rank N m < t) × AtLink N Q d m p
+  to-next e = rw e (
+    omega (arith, v .measured, next-less (v .knows .shape) at here),
+    record {
+      shape = v .knows .shape;
+      live = v .knows .shape .good at here .sibling;
+      most = v .knows .most;
+      few = v .knows .few;
+      passed = λ g. v .knows .passed pos ∙ ap (λ i. along Q nonePassed (rowOf N i)) (sym (v .knows .shape .good at here .same g));
+    },
+  )
+
+  -- the label passed: q is what the node's own row makes
+  module _ {q : Passed} (q-is : q ≡ after Q p l) where
+    pub made : q ≡ along Q nonePassed (rowOf N at)
+    made =
+        q-is ∙ ap₂ (after Q) (v .knows .passed pos) (v .l-is)
+        ∙ sym (along-next Q nonePassed (rowOf N (parent N at)) (label N at))
+        ∙ ap (along Q nonePassed) (sym (row-step (climb (v .knows .shape)) at here))
+
+    short-is : q .short ≡ along Q nonePassed (rowOf N at) .short
+    short-is = ap (λ (x : Passed). x .short) made
+
+    -- a branch whose shortfall passes d is left with all that is below it
+    pub left-out : {m : ℕ} → d < q .short → m ≡ next N at → foundFrom (almost Q d) N at ≡ foundFrom (almost Q d) N m
+    left-out h e = found-past (v .knows .shape) (almost Q d) at here (λ s. almost-no Q d (rowOf N at) s (omega (arith, short-is))) ∙ ap (foundFrom (almost Q d) N) (sym e)
+
+    module _ (h : q .short ≤ d) where
+      pub to-child : {k : ℕ} → k ≡ child N at → (rank N k < t) × AtLink N Q d k q
+      to-child e = rw e (
+        omega (arith, v .measured, child-less (v .knows .shape) at here),
+        record {
+          shape = v .knows .shape;
+          live = child-live (v .knows .shape) at in-table;
+          most = v .knows .most;
+          few = h;
+          passed = λ g. made ∙ ap (λ i. along Q nonePassed (rowOf N i)) (sym (v .knows .shape .head at in-table .back g));
+        },
+      )
+
+      passes : almost Q d (rowOf N at) ≡ true
+      passes = almost-yes Q d (rowOf N at) (omega (arith, short-is))
+
+      own-passes : (f : ℕ → ℕ) → map f (keep (answers (almost Q d) N) (at ∷ [])) ≡ ifTag (tag N at) (f at)
+      own-passes f = own-word (v .knows .shape) (almost Q d) f at ∙ ap (λ b. ifTag (cond b (tag N at) 0) (f at)) passes
+
+      module _ {k m u : ℕ} (k-is : k ≡ child N at) (m-is : m ≡ next N at) (u-is : u ≡ tag N at) where
+        parts-are : foundFrom (almost Q d) N at ≡ keep (answers (almost Q d) N) (at ∷ []) ++ (foundFrom (almost Q d) N k ++ foundFrom (almost Q d) N m)
+        parts-are = rw (k-is, m-is) (found-step (v .knows .shape) (almost Q d) at here)
+
+        own-tag : map (tag N) (keep (answers (almost Q d) N) (at ∷ [])) ≡ someTag u
+        own-tag = own-passes (tag N) ∙ ap someTag (sym u-is)
+
+        own-short : map (shortAt Q N) (keep (answers (almost Q d) N) (at ∷ [])) ≡ ifTag u (q .short)
+        unfolding shortAt shortIn
+        own-short = own-passes (shortAt Q N) ∙ ap₂ ifTag (sym u-is) (sym short-is)
+
+        pub room : length (foundFrom (almost Q d) N at) ≡ length (someTag u) + (length (foundFrom (almost Q d) N k) + length (foundFrom (almost Q d) N m))
+        room =
+            let own = keep (answers (almost Q d) N) (at ∷ []) in
+            let below = foundFrom (almost Q d) N k in
+            let behind = foundFrom (almost Q d) N m in
+            omega (arith, ap length parts-are, length-append own (below ++ behind), length-append below behind, ap length own-tag, length-map own (tag N))
+
+        pub set-down : {o o₁ o₂ o₃ z z₁ z₂ z₃ : List ℕ} {n a b r : ℕ} →
+            WroteBoth o o₁ z z₁ n a (someTag u) (ifTag u (q .short)) →
+            WroteNodes Q N o₁ o₂ z₁ z₂ a b (foundFrom (almost Q d) N k) →
+            WroteNodes Q N o₂ o₃ z₂ z₃ b r (foundFrom (almost Q d) N m) →
+            WroteNodes Q N o o₃ z z₃ n r (foundFrom (almost Q d) N at)
+        set-down x y w =
+            let below = foundFrom (almost Q d) N k in
+            let behind = foundFrom (almost Q d) N m in
+            nodes-same (tag N) (shortAt Q N) parts-are
+            (nodes-on (tag N) (shortAt Q N) (keep (answers (almost Q d) N) (at ∷ [])) (below ++ behind) (both-same own-tag own-short x) (nodes-on (tag N) (shortAt Q N) below behind y w))
+
+-- The root: the empty row has no shortfall
+module _ {N : List ℕ} (Q : List ℕ) (d : ℕ) (S : Shape mostPlace N) (h : d ≤ mostShort) where
+  pub root-link : {k : ℕ} → k ≡ child N 0 → AtLink N Q d k nonePassed
+  unfolding along
+  root-link e = rw e (record {
+    shape = S;
+    live = root-child S;
+    most = h;
+    few = omega arith;
+    passed = λ g. ap (along Q nonePassed) (sym (ap (rowOf N) (S .head 0 (root-inside S) .back g) ∙ row-root (climb S)));
+  })
+
+  root-passes : almost Q d (rowOf N 0) ≡ true
+  unfolding along
+  root-passes = ap (almost Q d) (row-root (climb S)) ∙ almost-yes Q d [] (omega arith)
+
+  root-own : (f : ℕ → ℕ) → map f (keep (answers (almost Q d) N) (0 ∷ [])) ≡ ifTag (tag N 0) (f 0)
+  root-own f = own-word S (almost Q d) f 0 ∙ ap (λ b. ifTag (cond b (tag N 0) 0) (f 0)) root-passes
+
+  root-short : shortAt Q N 0 ≡ 0
+  unfolding shortAt shortIn along
+  root-short = ap (λ r. along Q nonePassed r .short) (row-root (climb S))
+
+  module _ {k u : ℕ} (k-is : k ≡ child N 0) (u-is : u ≡ tag N 0) where
+    root-parts : foundIn (almost Q d) N ≡ keep (answers (almost Q d) N) (0 ∷ []) ++ foundFrom (almost Q d) N k
+    root-parts = rw k-is (found-root S (almost Q d))
+
+    root-tag : map (tag N) (keep (answers (almost Q d) N) (0 ∷ [])) ≡ someTag u
+    root-tag = root-own (tag N) ∙ ap someTag (sym u-is)
+
+    root-word : map (shortAt Q N) (keep (answers (almost Q d) N) (0 ∷ [])) ≡ ifTag u 0
+    root-word = root-own (shortAt Q N) ∙ ap₂ ifTag (sym u-is) root-short
+
+    pub root-room : length (someTag u) + length (foundFrom (almost Q d) N k) ≤ mostNodes
+    root-room =
+        let own = keep (answers (almost Q d) N) (0 ∷ []) in
+        omega (arith, ap length root-parts, length-append own (foundFrom (almost Q d) N k), ap length root-tag, length-map own (tag N), found-few S (almost Q d), S .sized .most)
+
+    pub root-set : {o o₁ o₂ z z₁ z₂ : List ℕ} {a r : ℕ} →
+        WroteBoth o o₁ z z₁ 0 a (someTag u) (ifTag u 0) →
+        WroteNodes Q N o₁ o₂ z₁ z₂ a r (foundFrom (almost Q d) N k) →
+        WroteNodes Q N o o₂ z z₂ 0 r (foundIn (almost Q d) N)
+    root-set x y =
+        nodes-same (tag N) (shortAt Q N) root-parts
+        (nodes-on (tag N) (shortAt Q N) (keep (answers (almost Q d) N) (0 ∷ [])) (foundFrom (almost Q d) N k) (both-same root-tag root-word x) y)

@@ -1,0 +1,122 @@
+-- With room for as many kits as there are nodes they are set down at once; otherwise counted where nothing is lent, and then refused or set down.
+use mathlib.Core.Path.{refl}
+use native.Mathlib.Omega.{arith}
+use Rattle.questions.proofs.Answered.{none-lent}
+use Rattle.shortfalls.proofs.Answered.{tags-are, shorts-are, all-refused, all-done, no-more-than-nodes}
+use borrow.Author.Needs.{needs}
+use Rattle.shortfalls.proofs.all_almost.Statement.{statement}
+use Rattle.shortfalls.proofs.all_almost.Tie as tie
+
+quantities-of-requires : tie.Need-quantities-of-requires
+quantities-of-requires c κs = search needs
+
+least-requires : tie.Need-least-requires
+least-requires c κs = search needs
+
+node-count-requires : tie.Need-node-count-requires
+node-count-requires c κs = search needs
+
+set-almost-requires : tie.Need-set-almost-requires
+set-almost-requires c κs = search needs
+
+same-length : tie.Need-same-length
+same-length c = search needs
+
+same-length-2 : tie.Need-same-length-2
+same-length-2 c = search needs
+
+returns : tie.Need-returns
+returns c =
+    let at-set-almost = c .before .before .before .before in
+    let at-if1 = at-set-almost .before .before .before .before in
+    let at-node-count = at-if1 .before in
+    let at-least = at-node-count .before in
+    let at-quantities-of = at-least .before in
+    let start = at-quantities-of .before .before .before .before .before in
+    let a = start .args in let S = start .pre .0 .shape in let g = start .pre .1 .0 in let e = at-quantities-of .quantities-of .ensures in
+    all-done (tags-are (a .d) (a .bin .now) S g e) (shorts-are (a .d) (a .bin .now) S g e) (a .tags .now) (a .shorts .now) (at-least .least .ensures) (at-set-almost .set-almost .ensures) refl refl
+    (omega (arith, no-more-than-nodes (at-quantities-of .quantities-of .result) (a .d) S (at-set-almost .set-almost .ensures) (at-node-count .node-count .ensures), at-if1 .if1 .taken)) (at-set-almost .set-almost .ensures)
+
+sub-set-almost : tie.Need-sub-set-almost
+sub-set-almost c = search needs
+
+part-set-almost-start : tie.Need-part-set-almost-start
+part-set-almost-start c = search needs
+
+part-set-almost-end : tie.Need-part-set-almost-end
+part-set-almost-end c = search needs
+
+sub-set-almost-2 : tie.Need-sub-set-almost-2
+sub-set-almost-2 c = search needs
+
+part-set-almost-start-2 : tie.Need-part-set-almost-start-2
+part-set-almost-start-2 c = search needs
+
+part-set-almost-end-2 : tie.Need-part-set-almost-end-2
+part-set-almost-end-2 c = search needs
+
+set-almost-requires-2 : tie.Need-set-almost-requires-2
+set-almost-requires-2 c κs = search needs
+
+same-length-3 : tie.Need-same-length-3
+same-length-3 c = search needs
+
+same-length-4 : tie.Need-same-length-4
+same-length-4 c = search needs
+
+returns-2 : tie.Need-returns-2
+returns-2 c =
+    let at-set-almost2 = c .before .before .before .before .before in
+    let at-least = at-set-almost2 .before .before .before .before .before .before in
+    let at-quantities-of = at-least .before in
+    let start = at-quantities-of .before .before .before .before .before in
+    let a = start .args in let S = start .pre .0 .shape in let g = start .pre .1 .0 in let e = at-quantities-of .quantities-of .ensures in
+    all-refused (tags-are (a .d) (a .bin .now) S g e) (shorts-are (a .d) (a .bin .now) S g e) (a .tags .now) (a .shorts .now) (at-least .least .ensures) (at-set-almost2 .set-almost2 .ensures)
+    (none-lent (at-set-almost2 .set-almost2 .ensures .one)) (none-lent (at-set-almost2 .set-almost2 .ensures .two)) (c .if2 .taken)
+
+set-almost-requires-3 : tie.Need-set-almost-requires-3
+set-almost-requires-3 c κs = search needs
+
+same-length-5 : tie.Need-same-length-5
+same-length-5 c = search needs
+
+same-length-6 : tie.Need-same-length-6
+same-length-6 c = search needs
+
+returns-3 : tie.Need-returns-3
+returns-3 c =
+    let at-set-almost3 = c .before .before .before .before in
+    let at-if2 = at-set-almost3 .before .before .before .before in
+    let at-set-almost2 = at-if2 .before .before .before .before .before in
+    let at-least = at-set-almost2 .before .before .before .before .before .before in
+    let at-quantities-of = at-least .before in
+    let start = at-quantities-of .before .before .before .before .before in
+    let a = start .args in let S = start .pre .0 .shape in let g = start .pre .1 .0 in let e = at-quantities-of .quantities-of .ensures in
+    all-done (tags-are (a .d) (a .bin .now) S g e) (shorts-are (a .d) (a .bin .now) S g e) (a .tags .now) (a .shorts .now) (at-least .least .ensures) (at-set-almost2 .set-almost2 .ensures)
+    (none-lent (at-set-almost2 .set-almost2 .ensures .one)) (none-lent (at-set-almost2 .set-almost2 .ensures .two)) (at-if2 .if2 .left) (at-set-almost3 .set-almost3 .ensures)
+
+pub all-almost-spec : {M : Type 1} → statement M
+all-almost-spec =
+    tie.close
+    (tie.spec
+    quantities-of-requires
+    least-requires
+    node-count-requires
+    set-almost-requires
+    same-length
+    same-length-2
+    returns
+    sub-set-almost
+    part-set-almost-start
+    part-set-almost-end
+    sub-set-almost-2
+    part-set-almost-start-2
+    part-set-almost-end-2
+    set-almost-requires-2
+    same-length-3
+    same-length-4
+    returns-2
+    set-almost-requires-3
+    same-length-5
+    same-length-6
+    returns-3)

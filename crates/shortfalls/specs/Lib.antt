@@ -1,0 +1,3 @@
+-- Request 1: kits that a bin almost fills.
+pub mod Shortfalls
+pub mod Inner

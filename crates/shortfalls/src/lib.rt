@@ -1,0 +1,154 @@
+// Request 1: kits that a bin almost fills, those whose shortfall is at most d, with the shortfall of each. On sound tables; the public call stands
+// above.
+ghost use mathlib.Core.Path.{_≡_};
+ghost use mathlib.Core.Bool.{true};
+ghost use mathlib.Core.List.{[]};
+ghost use Prim.Native.Nat.{_+_, _≤_, _<_};
+ghost use lib.ListN.{length};
+ghost use Rattle.ground.specs.Calls.{SetsBoth};
+ghost use Rattle.kits.specs.Kits.{mostPlace, goodList};
+ghost use Rattle.nodes.specs.Nodes.{mostNodes};
+ghost use Rattle.nodes.specs.Sound.{Shape, Sound};
+ghost use Rattle.questions.specs.Questions.{listedReply};
+ghost use Rattle.questions.specs.Walks.{foundFrom, foundIn, someTag, ifTag};
+ghost use Rattle.shortfalls.specs.Shortfalls.{mostShort, listAlmost};
+ghost use Rattle.shortfalls.specs.Inner.{leftOf, after, almost, WroteBoth, WroteNodes, AtLink};
+use ground::least;
+use kits::MOST_UNITS;
+use kits::PLACES;
+use kits::quantities_of;
+use nodes::child_at;
+use nodes::label_at;
+use nodes::next_at;
+use nodes::node_count;
+use nodes::tag_at;
+use questions::Listed;
+use questions::put_word;
+use questions::quantity;
+
+// "a number d from 0 to 64"
+pub const MOST_SHORT: u16 = MOST_UNITS as u16;
+
+// What a walk keeps of the labels that it has passed: the last one, how many of it the bin has left, and the shortfall so far.
+pub struct Passed {
+    pub last: u16,
+    pub left: u16,
+    pub short: u16,
+}
+
+// How many the bin has left for a label, behind the last one.
+fn left_of(bin: &[u16; PLACES], label: u16, last: u16, left: u16) -> u16
+    requires { ⌜ label ≤ mostPlace ⌝ }
+    ensures { λ r. ⌜ r ≡ leftOf (now (bin .entry)) label last left ⌝ }
+{
+    if label == last {
+        return left;
+    }
+    quantity(bin, label)
+}
+
+// A label more: it is taken from the bin, or it is short.
+fn pass(bin: &[u16; PLACES], p: Passed, label: u16) -> Passed
+    requires { ⌜ (label ≤ mostPlace) × (p .short ≤ mostShort) ⌝ }
+    ensures { λ r. ⌜ r ≡ after (now (bin .entry)) p label ⌝ }
+{
+    let left = left_of(bin, label, p.last, p.left);
+    if 0 < left {
+        return Passed {
+            last: label,
+            left: left - 1,
+            short: p.short,
+        };
+    }
+    Passed {
+        last: label,
+        left: 0,
+        short: p.short + 1,
+    }
+}
+
+// Sets down a tag and a shortfall, each where there is room for it, unless the tag is 0; returns the place of the next.
+fn put_both(tags: &mut [u16], shorts: &mut [u16], n: usize, t: u16, s: u16) -> usize
+    requires { ⌜ n + length (someTag t) ≤ mostNodes ⌝ }
+    ensures { λ r. ⌜ WroteBoth (now (tags .entry)) (now (tags .exit)) (now (shorts .entry)) (now (shorts .exit)) n r (someTag t) (ifTag t s) ⌝ }
+{
+    if t == 0 {
+        return n;
+    }
+    put_word(tags, n, t);
+    put_word(shorts, n, s);
+    n + 1
+}
+
+// Sets down the kits with a shortfall of at most d on the chain that starts at a link, and below it, from n on; returns the place of the next.
+// A branch is left as soon as its shortfall passes d.
+fn list_almost(
+    nodes: &[u16],
+    bin: &[u16; PLACES],
+    tags: &mut [u16],
+    shorts: &mut [u16],
+    n: usize,
+    d: u16,
+    at: usize,
+    p: Passed,
+) -> usize
+    requires { ⌜ AtLink (now nodes) (now bin) d at p ⌝ ∗ ⌜ n + length (foundFrom (almost (now bin) d) (now nodes) at) ≤ mostNodes ⌝ }
+    ensures { λ r. ⌜ WroteNodes (now (bin .entry)) (now (nodes .entry)) (now (tags .entry)) (now (tags .exit)) (now (shorts .entry)) (now (shorts .exit)) n r (foundFrom (almost (now (bin .entry)) d) (now (nodes .entry)) at) ⌝ }
+{
+    if at == 0 {
+        return n;
+    }
+    let then = pass(bin, p, label_at(nodes, at));
+    let next = next_at(nodes, at);
+    if d < then.short {
+        return list_almost(nodes, bin, tags, shorts, n, d, next, p);
+    }
+    let m = put_both(tags, shorts, n, tag_at(nodes, at), then.short);
+    let k = list_almost(nodes, bin, tags, shorts, m, d, child_at(nodes, at), then);
+    list_almost(nodes, bin, tags, shorts, k, d, next, p)
+}
+
+// Sets down all kits with a shortfall of at most d, as far as there is room; returns how many they are.
+fn set_almost(
+    nodes: &[u16],
+    bin: &[u16; PLACES],
+    d: u16,
+    tags: &mut [u16],
+    shorts: &mut [u16],
+) -> usize
+    requires { ⌜ (Shape mostPlace (now nodes)) × (d ≤ mostShort) ⌝ }
+    ensures { λ r. ⌜ WroteNodes (now (bin .entry)) (now (nodes .entry)) (now (tags .entry)) (now (tags .exit)) (now (shorts .entry)) (now (shorts .exit)) 0 r (foundIn (almost (now (bin .entry)) d) (now (nodes .entry))) ⌝ }
+{
+    let n = put_both(tags, shorts, 0, tag_at(nodes, 0), 0);
+    let none = Passed {
+        last: 0,
+        left: 0,
+        short: 0,
+    };
+    list_almost(nodes, bin, tags, shorts, n, d, child_at(nodes, 0), none)
+}
+
+// All kits with a shortfall of at most d: their tags in listing order, and their shortfalls in step. Where the outputs have room for as many kits
+// as there are nodes they are written at once; otherwise they are counted first, so that a refusal writes nothing.
+pub fn all_almost(
+    nodes: &[u16],
+    bin: &[u16],
+    d: u16,
+    tags: &mut [u16],
+    shorts: &mut [u16],
+) -> Listed
+    requires { ⌜ Sound mostPlace (now nodes) ⌝ ∗ ⌜ (goodList mostPlace (now bin) ≡ true) × (d ≤ mostShort) ⌝ }
+    ensures { λ r. ⌜ SetsBoth (listAlmost [] d (now (bin .entry)) (now (nodes .entry))) (now (tags .entry)) (now (shorts .entry)) (listedReply r) (now (tags .exit)) (now (shorts .exit)) ⌝ }
+{
+    let amounts = quantities_of(bin);
+    let room = least(tags.len(), shorts.len());
+    if node_count(nodes) <= room {
+        return Listed::Done(set_almost(nodes, &amounts, d, tags, shorts));
+    }
+    let need = set_almost(nodes, &amounts, d, &mut tags[0..0], &mut shorts[0..0]);
+    if room < need {
+        return Listed::NoRoom(need);
+    }
+    set_almost(nodes, &amounts, d, tags, shorts);
+    Listed::Done(need)
+}

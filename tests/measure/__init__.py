@@ -1,0 +1,1 @@
+"""What the measuring programs share: crates proved, built and lent to C, and tables of nodes."""
