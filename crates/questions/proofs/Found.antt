@@ -29,7 +29,7 @@ kept-word f i false t = refl
 
 module _ {parts : ℕ} {N : List ℕ} (S : Shape parts N) (test : List ℕ → Bool) where
   -- the node itself, where a kit ends there that passes
-  abbrev pub ownOf : ℕ → List ℕ
+  abbrev ownOf : ℕ → List ℕ
   ownOf i = keep (answers test N) (i ∷ [])
 
   pub own-word : (f : ℕ → ℕ) (i : ℕ) → map f (keep (answers test N) (i ∷ [])) ≡ ifTag (cond (test (rowOf N i)) (tag N i) 0) (f i)
