@@ -137,6 +137,9 @@ module _ (R N : List ℕ) where
 
       -- Kits that a bin almost fills
       module _ (d : ℕ) (o : Both) where
+        abbrev tooFar : List Case
+        tooFar = given (ltb mostShort d) 14 0 ∷ []
+
         pub almost-refused : isRefused r ≡ true → Promise (almostKits d l (tables R N) o) o r o
         unfolding almostKits setBoth
         almost-refused e = rw append-assoc (promise-front (lentList (tables R N) l) _ _ _ o r 0 is e)
@@ -146,13 +149,13 @@ module _ (R N : List ℕ) where
         almost-too-far e h = rw append-assoc (promise-behind (lentList (tables R N) l) _ _ _ o (refused 14 0) o 0 (ap isRefused (sym is) ∙ e)
             (promise-refused (plan _ _ _) o 14 0 (at-once (ltb mostShort d) 14 0 _ _ (lt-ltb mostShort d h))))
 
-        near-passes : isRefused r ≡ false → d ≤ mostShort → decide (lentList (tables R N) l ++ (given (ltb mostShort d) 14 0 ∷ [])) 0 ≡ done 0
+        near-passes : isRefused r ≡ false → d ≤ mostShort → decide (lentList (tables R N) l ++ tooFar) 0 ≡ done 0
         unfolding decide
-        near-passes e h = first-passes r (lentList (tables R N) l) (given (ltb mostShort d) 14 0 ∷ []) 0 0 is e ∙ rw (le-ltb mostShort d h)
+        near-passes e h = first-passes r (lentList (tables R N) l) tooFar 0 0 is e ∙ rw (le-ltb mostShort d h)
 
         pub almost-done : (s q : Reply) (m : Both) → isRefused r ≡ false → d ≤ mostShort → s ≡ q → Promise (listAlmost [] d l N o) o q m → Promise (almostKits d l (tables R N) o) o s m
         unfolding almostKits
-        almost-done s q m e h same p = rw same (set-both-behind (lentList (tables R N) l ++ (given (ltb mostShort d) 14 0 ∷ [])) 0 (almostTags d l N) (almostShorts d l N) o (near-passes e h) p)
+        almost-done s q m e h same p = rw same (set-both-behind (lentList (tables R N) l ++ tooFar) 0 (almostTags d l N) (almostShorts d l N) o (near-passes e h) p)
 
     -- Inserting
     module _ (t : ℕ) (r : Reply) (is : r ≡ decide (lentBoth (tables R N)) 0) where

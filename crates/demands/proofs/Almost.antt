@@ -1,13 +1,12 @@
 -- Request 1 from any list of calls: the kits that a bin almost fills, in terms of what the accepted calls left.
 use mathlib.Core.Path.{_≡_, sym, ap, subst, _∙_}
-use mathlib.Core.Bool.{_||_}
 use mathlib.Core.List.{List, [], _∷_, _++_, append-assoc, List·Memᴰ}
 use Prim.Native.Nat.{ℕ, _≤_}
 use native.Mathlib.Omega.{arith}
 use lib.ListN.{length, drop, length-map}
 use lib.Dec.{ltb}
 use borrow.Author.Tests.{le-ltb}
-use Rattle.ground.specs.Calls.{Case, given, done, decide, answer, memory, Promise, Both, both, setBoth}
+use Rattle.ground.specs.Calls.{Case, given, Plan, done, decide, answer, memory, Promise, Both, both, setBoth}
 use Rattle.ground.specs.Laid.{laid}
 use Rattle.ground.proofs.Calls.{decide-behind, set-both-done, set-both-behind}
 use Rattle.ground.proofs.Laid.{laid-front}
@@ -57,28 +56,32 @@ most-is-all a bin h = almost.most-is-all (units bin) (inOrder (entered a .kits))
 ------------------------------------------------------------------------
 -- The call
 
--- its refusals behind those of the tables
-abbrev farFrom : ℕ → List Case
-farFrom d = given (ltb mostShort d) 14 0 ∷ []
+-- "new 14, d above 64"
+abbrev tooFar : ℕ → List Case
+tooFar d = given (ltb mostShort d) 14 0 ∷ []
 
-module _ {T : Tables} {m : Contents} (b : Brought T m) (d : ℕ) (bin : List ℕ) where
-  pub almost-answer : (o : Both) → answer (almostKits d bin T o) ≡ answer (almostOf d bin m o)
-  unfolding almostKits lentList allOf setBoth
-  almost-answer o =
+module _ {T : Tables} {m : Contents} (b : Brought T m) (d : ℕ) (bin : List ℕ) (o : Both) where
+  abbrev faults : List Case
+  faults = listFaults (length (m .parts)) bin ++ tooFar d
+
+  abbrev kits : List Kit
+  kits = answering (isAlmost d) bin m
+
+  -- its plan is that of what the catalogue has, behind the refusals of the tables
+  behind-both : almostKits d bin T o ≡ setBoth (lentBoth T ++ faults) (tagsOf kits) (shortsOf (units bin) kits) o
+  unfolding almostKits lentList allOf
+  behind-both =
       let f = the-fitting b (isAlmost d) bin in
       let g = the-faults b (isAlmost d) bin in
-      let n = length (tagsOf (answering (isAlmost d) bin m)) in
-      rw (f, g, append-assoc (lentBoth T) (listFaults (length (m .parts)) bin) (farFrom d))
-      (room-answer b (listFaults (length (m .parts)) bin ++ farFrom d) (ltb (length (o .first)) n || ltb (length (o .second)) n) n _ o)
+      rw (f, g, append-assoc (lentBoth T) (listFaults (length (m .parts)) bin) (tooFar d))
 
-  pub almost-memory : (o : Both) → memory (almostKits d bin T o) o ≡ memory (almostOf d bin m o) o
-  unfolding almostKits lentList allOf setBoth
-  almost-memory o =
-      let f = the-fitting b (isAlmost d) bin in
-      let g = the-faults b (isAlmost d) bin in
-      let n = length (tagsOf (answering (isAlmost d) bin m)) in
-      rw (f, g, append-assoc (lentBoth T) (listFaults (length (m .parts)) bin) (farFrom d))
-      (room-memory b (listFaults (length (m .parts)) bin ++ farFrom d) (ltb (length (o .first)) n || ltb (length (o .second)) n) n _ o)
+  pub almost-answer : answer (almostKits d bin T o) ≡ answer (almostOf d bin m o)
+  unfolding setBoth
+  almost-answer = ap answer behind-both ∙ room-answer b faults _ (length (tagsOf kits)) _ o
+
+  pub almost-memory : memory (almostKits d bin T o) o ≡ memory (almostOf d bin m o) o
+  unfolding setBoth
+  almost-memory = ap (λ (p : Plan Both). memory p o) behind-both ∙ room-memory b faults _ (length (tagsOf kits)) _ o
 
 pub almost-answers : AlmostAnswers
 almost-answers a d bin o h = (almost-answer (brought a h) d bin o, almost-memory (brought a h) d bin o)
@@ -99,13 +102,13 @@ module _ (cs : List Case) (bin : List ℕ) (ks : List Kit) (o p : List ℕ) (f :
       let v : laid p 0 (shortsOf bin ks) ≡ shortsOf bin ks ++ drop (length ks) p = laid-front p (shortsOf bin ks) ∙ ap (λ n. shortsOf bin ks ++ drop n p) s in
       rw (← u, ← v, ← t) (set-both-behind cs 0 (tagsOf ks) (shortsOf bin ks) (both o p) e (set-both-done (tagsOf ks) (shortsOf bin ks) (both o p) (omega arith)))
 
-near-enough : (cs : List Case) (d : ℕ) → decide cs 0 ≡ done 0 → d ≤ mostShort → decide (cs ++ farFrom d) 0 ≡ done 0
+near-enough : (cs : List Case) (d : ℕ) → decide cs 0 ≡ done 0 → d ≤ mostShort → decide (cs ++ tooFar d) 0 ≡ done 0
 unfolding decide
-near-enough cs d e h = decide-behind cs (farFrom d) 0 0 e ∙ rw (le-ltb mostShort d h)
+near-enough cs d e h = decide-behind cs (tooFar d) 0 0 e ∙ rw (le-ltb mostShort d h)
 
 pub almost-shows : AlmostShows
 almost-shows a d bin o p h good near f g =
     let b = brought a h in
     let cs = listFaults (length (entered a .parts)) bin in
-    let s = shown-both (cs ++ farFrom d) (units bin) (answering (isAlmost d) bin (entered a)) o p f g (near-enough cs d good near) in
+    let s = shown-both (cs ++ tooFar d) (units bin) (answering (isAlmost d) bin (entered a)) o p f g (near-enough cs d good near) in
     (almost-answer b d bin (both o p) ∙ sym (s .answers), almost-memory b d bin (both o p) ∙ sym (s .lent))

@@ -8,7 +8,8 @@ use Rattle.lent.specs.declared.Answer.{Answer}
 use Rattle.lent.specs.declared.Answer.the-variants.{Done, WrongLength, NotSound, Unordered, Unregistered, Amount, TooMany, NoTag, Held, TagBorne, NotHeld, NoRoom, Fault, TooFar}
 use Rattle.lent.specs.Answers.{reply}
 
-pub done-or-refused : (a : Answer) → (reply a ≡ done (valueOf (reply a))) ⊎ ((0 < numberOf (reply a)) × (reply a ≡ refused (numberOf (reply a)) (valueOf (reply a))))
+pub done-or-refused : (a : Answer) →
+    (reply a ≡ done (valueOf (reply a))) ⊎ ((0 < numberOf (reply a)) × (reply a ≡ refused (numberOf (reply a)) (valueOf (reply a))))
 done-or-refused (Done v) = inl refl
 done-or-refused WrongLength = inr (omega arith, refl)
 done-or-refused NotSound = inr (omega arith, refl)

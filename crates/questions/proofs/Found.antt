@@ -29,7 +29,7 @@ kept-word f i false t = refl
 
 module _ {parts : ℕ} {N : List ℕ} (S : Shape parts N) (test : List ℕ → Bool) where
   -- the node itself, where a kit ends there that passes
-  abbrev pub ownOf : ℕ → List ℕ
+  abbrev ownOf : ℕ → List ℕ
   ownOf i = keep (answers test N) (i ∷ [])
 
   pub own-word : (f : ℕ → ℕ) (i : ℕ) → map f (keep (answers test N) (i ∷ [])) ≡ ifTag (cond (test (rowOf N i)) (tag N i) 0) (f i)
@@ -68,7 +68,8 @@ module _ {parts : ℕ} {N : List ℕ} (S : Shape parts N) (test : List ℕ → B
   )
 
   -- where no row passes that goes on from the node above with a label of at least this one, none does here, below or behind
-  pub found-dead : (i : ℕ) → Live N i → (0 < i → (x : ℕ) (s : List ℕ) → label N i ≤ x → x ≤ parts → test (rowOf N (parent N i) ++ (x ∷ s)) ≡ false) → foundFrom test N i ≡ []
+  pub found-dead : (i : ℕ) → Live N i →
+      (0 < i → (x : ℕ) (s : List ℕ) → label N i ≤ x → x ≤ parts → test (rowOf N (parent N i) ++ (x ∷ s)) ≡ false) → foundFrom test N i ≡ []
   found-dead i l =
       ind S (λ (i : ℕ). (0 < i → (x : ℕ) (s : List ℕ) → label N i ≤ x → x ≤ parts → test (rowOf N (parent N i) ++ (x ∷ s)) ≡ false) → foundFrom test N i ≡ [])
       (λ h. found-none)
@@ -105,7 +106,8 @@ walk-kits test N (x ∷ xs) = go (test (rowOf N x)) (tagged N x) refl (walk-kits
     go false false e h = h
 
 -- the kits held that answer are those at the nodes found
-pub kits-found : {parts : ℕ} {N : List ℕ} → Shape parts N → (test : List ℕ → Bool) (q : Kit → Bool) → ((k : Kit) → List·Memᴰ k (held N) → q k ≡ test (k .row)) → keep q (held N) ≡ map (kitAt N) (foundIn test N)
+pub kits-found : {parts : ℕ} {N : List ℕ} → Shape parts N → (test : List ℕ → Bool) (q : Kit → Bool) →
+    ((k : Kit) → List·Memᴰ k (held N) → q k ≡ test (k .row)) → keep q (held N) ≡ map (kitAt N) (foundIn test N)
 unfolding foundIn onRow
 kits-found {N = N} S test q f = keep-same q (onRow test) (held N) f ∙ ap (keep (onRow test)) (held-is-walk S) ∙ walk-kits test N (walkAll N)
 

@@ -68,12 +68,14 @@ module _ {xs ys ts ss : List ℕ} (a : xs ≡ ts) (b : ys ≡ ss) (o z : List �
   pub all-refused : {m w : List ℕ} → m ≡ o → w ≡ z → room < need → Promise (setBoth [] xs ys (both o z)) (both o z) (refused 12 need) (both m w)
   all-refused i j h = rw (many, i, j) (set-both-full xs ys (both o z) (omega (arith, many, e)))
 
-  pub all-done : {m w o′ z′ : List ℕ} {r : ℕ} → m ≡ o → w ≡ z → need ≤ room → WroteBoth m o′ w z′ 0 r ts ss → Promise (setBoth [] xs ys (both o z)) (both o z) (done need) (both o′ z′)
+  pub all-done : {m w o′ z′ : List ℕ} {r : ℕ} → m ≡ o → w ≡ z → need ≤ room → WroteBoth m o′ w z′ 0 r ts ss →
+      Promise (setBoth [] xs ys (both o z)) (both o z) (done need) (both o′ z′)
   all-done i j h k =
       let u = wrote-laid a i (omega (arith, many, e)) (k .one) in
       let v = wrote-laid b j (omega (arith, many, e, ap length a, ap length b, k .one .ends, k .two .ends)) (k .two) in
       rw (many, u, v) (set-both-done xs ys (both o z) (omega (arith, many, e)))
 
 -- as many kits as there are nodes at most
-pub no-more-than-nodes : (Q : List ℕ) (d : ℕ) {N o o′ z z′ : List ℕ} {n r : ℕ} → Shape mostPlace N → WroteNodes Q N o o′ z z′ 0 r (foundIn (almost Q d) N) → n ≡ size N → r ≤ n
+pub no-more-than-nodes : (Q : List ℕ) (d : ℕ) {N o o′ z z′ : List ℕ} {n r : ℕ} → Shape mostPlace N →
+    WroteNodes Q N o o′ z z′ 0 r (foundIn (almost Q d) N) → n ≡ size N → r ≤ n
 no-more-than-nodes Q d {N} S w e = omega (arith, w .one .ends, length-map (foundIn (almost Q d) N) (tag N), found-few S (almost Q d))

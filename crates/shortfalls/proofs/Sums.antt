@@ -25,7 +25,8 @@ sum-same f g zero a h = refl
 sum-same f g (suc n) a h = ap₂ _+_ (h a (omega arith)) (sum-same f g n (suc a) (λ p l. h p (omega arith)))
 
 -- one summand is greater by c
-sum-more : (f g : ℕ → ℕ) (x c : ℕ) → ((p : ℕ) → p ≢ x → g p ≡ f p) → g x ≡ f x + c → (n a : ℕ) → a ≤ x → x < a + n → sumOver g (from a n) ≡ sumOver f (from a n) + c
+sum-more : (f g : ℕ → ℕ) (x c : ℕ) → ((p : ℕ) → p ≢ x → g p ≡ f p) → g x ≡ f x + c → (n a : ℕ) → a ≤ x → x < a + n →
+    sumOver g (from a n) ≡ sumOver f (from a n) + c
 unfolding sumOver from
 sum-more f g x c h e zero a l u = absurd (omega arith)
 sum-more f g x c h e (suc n) a l u = ⊎-elim

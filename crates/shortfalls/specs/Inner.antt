@@ -9,7 +9,7 @@ use lib.ListN.{getD}
 use Rattle.kits.specs.Kits.{mostPlace, quantity}
 use Rattle.nodes.specs.Nodes.{parent, tag, rowOf}
 use Rattle.nodes.specs.Sound.{Live, Shape}
-use Rattle.questions.specs.Walks.{Wrote}
+use Rattle.questions.specs.Walks.{foundFrom, foundIn, Wrote}
 use Rattle.shortfalls.specs.Shortfalls.{mostShort}
 use Rattle.shortfalls.specs.declared.Passed.{Passed}
 
@@ -68,6 +68,13 @@ pub record WroteBoth (o o′ p p′ : List ℕ) (n r : ℕ) (ts ss : List ℕ) :
 -- The tags and shortfalls of some nodes set down
 abbrev pub WroteNodes : List ℕ → List ℕ → List ℕ → List ℕ → List ℕ → List ℕ → ℕ → ℕ → List ℕ → Type 0
 WroteNodes Q N o o′ p p′ n r is = WroteBoth o o′ p p′ n r (map (tag N) is) (map (shortAt Q N) is)
+
+-- Those found on the chain that starts at a link and below it, from n on; and those of the whole table
+abbrev pub WroteFrom : List ℕ → ℕ → List ℕ → ℕ → List ℕ → List ℕ → List ℕ → List ℕ → ℕ → ℕ → Type 0
+WroteFrom Q d N at o o′ p p′ n r = WroteNodes Q N o o′ p p′ n r (foundFrom (almost Q d) N at)
+
+abbrev pub WroteIn : List ℕ → ℕ → List ℕ → List ℕ → List ℕ → List ℕ → List ℕ → ℕ → Type 0
+WroteIn Q d N o o′ p p′ r = WroteNodes Q N o o′ p p′ 0 r (foundIn (almost Q d) N)
 
 -- What the walk knows at a link: what the row of the node above has made of the labels, and that its shortfall is at most d. So no link is followed
 -- from a node whose row has a greater one.

@@ -10,9 +10,9 @@ ghost use Rattle.kits.specs.Kits.{mostPlace, goodList};
 ghost use Rattle.nodes.specs.Nodes.{mostNodes};
 ghost use Rattle.nodes.specs.Sound.{Shape, Sound};
 ghost use Rattle.questions.specs.Questions.{listedReply};
-ghost use Rattle.questions.specs.Walks.{foundFrom, foundIn, someTag, ifTag};
+ghost use Rattle.questions.specs.Walks.{foundFrom, someTag, ifTag};
 ghost use Rattle.shortfalls.specs.Shortfalls.{mostShort, listAlmost};
-ghost use Rattle.shortfalls.specs.Inner.{leftOf, after, almost, WroteBoth, WroteNodes, AtLink};
+ghost use Rattle.shortfalls.specs.Inner.{leftOf, after, almost, WroteBoth, WroteFrom, WroteIn, AtLink};
 use ground::least;
 use kits::MOST_UNITS;
 use kits::PLACES;
@@ -93,7 +93,7 @@ fn list_almost(
     p: Passed,
 ) -> usize
     requires { ⌜ AtLink (now nodes) (now bin) d at p ⌝ ∗ ⌜ n + length (foundFrom (almost (now bin) d) (now nodes) at) ≤ mostNodes ⌝ }
-    ensures { λ r. ⌜ WroteNodes (now (bin .entry)) (now (nodes .entry)) (now (tags .entry)) (now (tags .exit)) (now (shorts .entry)) (now (shorts .exit)) n r (foundFrom (almost (now (bin .entry)) d) (now (nodes .entry)) at) ⌝ }
+    ensures { λ r. ⌜ WroteFrom (now (bin .entry)) d (now (nodes .entry)) at (now (tags .entry)) (now (tags .exit)) (now (shorts .entry)) (now (shorts .exit)) n r ⌝ }
 {
     if at == 0 {
         return n;
@@ -117,7 +117,7 @@ fn set_almost(
     shorts: &mut [u16],
 ) -> usize
     requires { ⌜ (Shape mostPlace (now nodes)) × (d ≤ mostShort) ⌝ }
-    ensures { λ r. ⌜ WroteNodes (now (bin .entry)) (now (nodes .entry)) (now (tags .entry)) (now (tags .exit)) (now (shorts .entry)) (now (shorts .exit)) 0 r (foundIn (almost (now (bin .entry)) d) (now (nodes .entry))) ⌝ }
+    ensures { λ r. ⌜ WroteIn (now (bin .entry)) d (now (nodes .entry)) (now (tags .entry)) (now (tags .exit)) (now (shorts .entry)) (now (shorts .exit)) r ⌝ }
 {
     let n = put_both(tags, shorts, 0, tag_at(nodes, 0), 0);
     let none = Passed {

@@ -20,10 +20,17 @@ refused-requires : tie.Need-refused-requires
 refused-requires c κs = search needs
 
 returns : tie.Need-returns
-returns c = all-refused (c .before .before .before .before .before .before .before .args .reg .now) (c .before .before .before .before .before .before .before .args .nodes .now) (c .before .before .before .before .before .before .before .args .bin .now) _ (c .before .before .check-lent .ensures) isWithin (c .before .before .before .before .before .before .before .args .out .now) (sym (c .before .refused .ensures) ∙ c .if1 .taken)
+returns c =
+    let at-check-lent = c .before .before in
+    let start = at-check-lent .before .before .before .before .before in
+    all-refused (start .args .reg .now) (start .args .nodes .now) (start .args .bin .now) _ (at-check-lent .check-lent .ensures) isWithin (start .args .out .now) (sym (c .before .refused .ensures) ∙ c .if1 .taken)
 
 all-within-requires : tie.Need-all-within-requires
-all-within-requires c κs = let p = lent-passed (c .before .before .before .before .before .before .before .before .args .reg .now) (c .before .before .before .before .before .before .before .before .args .nodes .now) (c .before .before .before .before .before .before .before .before .args .bin .now) (ap isRefused (sym (c .before .before .before .check-lent .ensures)) ∙ sym (c .before .before .refused .ensures) ∙ c .before .if1 .left) in (lent-sound _ _ (p .both), lent-good _ _ _ p)
+all-within-requires c κs =
+    let at-refused = c .before .before in
+    let at-check-lent = at-refused .before in
+    let start = at-check-lent .before .before .before .before .before in
+    let p = lent-passed (start .args .reg .now) (start .args .nodes .now) (start .args .bin .now) (ap isRefused (sym (at-check-lent .check-lent .ensures)) ∙ sym (at-refused .refused .ensures) ∙ c .before .if1 .left) in (lent-sound _ _ (p .both), lent-good _ _ _ p)
 
 listed-answer-requires : tie.Need-listed-answer-requires
 listed-answer-requires c κs = search needs
@@ -32,7 +39,13 @@ same-length : tie.Need-same-length
 same-length c = search needs
 
 returns-2 : tie.Need-returns-2
-returns-2 c = all-done (c .before .before .before .before .before .before .before .before .before .before .before .before .args .reg .now) (c .before .before .before .before .before .before .before .before .before .before .before .before .args .nodes .now) (c .before .before .before .before .before .before .before .before .before .before .before .before .args .bin .now) _ (c .before .before .before .before .before .before .before .check-lent .ensures) isWithin (c .before .before .before .before .before .before .before .before .before .before .before .before .args .out .now) _ _ _ (sym (c .before .before .before .before .before .before .refused .ensures) ∙ c .before .before .before .before .before .if1 .left) (c .listed-answer .ensures) (c .before .before .before .all-within .ensures)
+returns-2 c =
+    let at-all-within = c .before .before .before in
+    let at-if1 = at-all-within .before .before in
+    let at-refused = at-if1 .before in
+    let at-check-lent = at-refused .before in
+    let start = at-check-lent .before .before .before .before .before in
+    all-done (start .args .reg .now) (start .args .nodes .now) (start .args .bin .now) _ (at-check-lent .check-lent .ensures) isWithin (start .args .out .now) _ _ _ (sym (at-refused .refused .ensures) ∙ at-if1 .if1 .left) (c .listed-answer .ensures) (at-all-within .all-within .ensures)
 
 pub all-within-spec : {M : Type 1} → statement M
 all-within-spec =

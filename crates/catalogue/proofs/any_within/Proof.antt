@@ -20,16 +20,27 @@ refused-requires : tie.Need-refused-requires
 refused-requires c κs = search needs
 
 returns : tie.Need-returns
-returns c = any-refused (c .before .before .before .before .before .before .args .reg .now) (c .before .before .before .before .before .before .args .nodes .now) (c .before .before .before .before .before .before .args .bin .now) _ (c .before .before .check-lent .ensures) isWithin (sym (c .before .refused .ensures) ∙ c .if1 .taken)
+returns c =
+    let at-check-lent = c .before .before in
+    let start = at-check-lent .before .before .before .before in
+    any-refused (start .args .reg .now) (start .args .nodes .now) (start .args .bin .now) _ (at-check-lent .check-lent .ensures) isWithin (sym (c .before .refused .ensures) ∙ c .if1 .taken)
 
 any-within-requires : tie.Need-any-within-requires
-any-within-requires c κs = let p = lent-passed (c .before .before .before .before .before .before .args .reg .now) (c .before .before .before .before .before .before .args .nodes .now) (c .before .before .before .before .before .before .args .bin .now) (ap isRefused (sym (c .before .before .check-lent .ensures)) ∙ sym (c .before .refused .ensures) ∙ c .if1 .left) in (lent-sound _ _ (p .both), lent-good _ _ _ p)
+any-within-requires c κs =
+    let at-check-lent = c .before .before in
+    let start = at-check-lent .before .before .before .before in
+    let p = lent-passed (start .args .reg .now) (start .args .nodes .now) (start .args .bin .now) (ap isRefused (sym (at-check-lent .check-lent .ensures)) ∙ sym (c .before .refused .ensures) ∙ c .if1 .left) in (lent-sound _ _ (p .both), lent-good _ _ _ p)
 
 wide16-requires : tie.Need-wide16-requires
 wide16-requires c κs = search needs
 
 returns-2 : tie.Need-returns-2
-returns-2 c = any-done (c .before .before .before .before .before .before .before .before .args .reg .now) (c .before .before .before .before .before .before .before .before .args .nodes .now) (c .before .before .before .before .before .before .before .before .args .bin .now) _ (c .before .before .before .before .check-lent .ensures) isWithin _ (sym (c .before .before .before .refused .ensures) ∙ c .before .before .if1 .left) (c .wide16 .ensures .0 ∙ c .before .any-within .ensures)
+returns-2 c =
+    let at-if1 = c .before .before in
+    let at-refused = at-if1 .before in
+    let at-check-lent = at-refused .before in
+    let start = at-check-lent .before .before .before .before in
+    any-done (start .args .reg .now) (start .args .nodes .now) (start .args .bin .now) _ (at-check-lent .check-lent .ensures) isWithin _ (sym (at-refused .refused .ensures) ∙ at-if1 .if1 .left) (c .wide16 .ensures .0 ∙ c .before .any-within .ensures)
 
 pub any-within-spec : {M : Type 1} → statement M
 any-within-spec =

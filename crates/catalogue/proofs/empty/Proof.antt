@@ -23,7 +23,10 @@ same-length-2 : tie.Need-same-length-2
 same-length-2 c = search needs
 
 returns : tie.Need-returns
-returns c = empty-refused (c .before .before .before .before .before .before .before .args .reg .now) (c .before .before .before .before .before .before .before .args .nodes .now) _ (c .before .before .check-lengths .ensures) (sym (c .before .refused .ensures) ∙ c .if1 .taken)
+returns c =
+    let at-check-lengths = c .before .before in
+    let start = at-check-lengths .before .before .before .before .before in
+    empty-refused (start .args .reg .now) (start .args .nodes .now) _ (at-check-lengths .check-lengths .ensures) (sym (c .before .refused .ensures) ∙ c .if1 .taken)
 
 clear-requires : tie.Need-clear-requires
 clear-requires c κs = search needs
@@ -38,7 +41,14 @@ same-length-4 : tie.Need-same-length-4
 same-length-4 c = search needs
 
 returns-2 : tie.Need-returns-2
-returns-2 c = empty-done (c .before .before .before .before .before .before .before .before .before .before .before .before .before .before .before .args .reg .now) (c .before .before .before .before .before .before .before .before .before .before .before .before .before .before .before .args .nodes .now) _ _ _ (c .before .before .before .before .before .before .before .before .before .before .check-lengths .ensures) (sym (c .before .before .before .before .before .before .before .before .before .refused .ensures) ∙ c .before .before .before .before .before .before .before .before .if1 .left) (c .before .before .before .before .before .before .clear .ensures) (c .before .before .clear-nodes .ensures)
+returns-2 c =
+    let at-clear-nodes = c .before .before in
+    let at-clear = at-clear-nodes .before .before .before .before in
+    let at-if1 = at-clear .before .before in
+    let at-refused = at-if1 .before in
+    let at-check-lengths = at-refused .before in
+    let start = at-check-lengths .before .before .before .before .before in
+    empty-done (start .args .reg .now) (start .args .nodes .now) _ _ _ (at-check-lengths .check-lengths .ensures) (sym (at-refused .refused .ensures) ∙ at-if1 .if1 .left) (at-clear .clear .ensures) (at-clear-nodes .clear-nodes .ensures)
 
 pub empty-spec : {M : Type 1} → statement M
 empty-spec =

@@ -29,29 +29,48 @@ passed : (c : tie.Else1) → LentList (c .before .before .before .before .before
 passed c = lent-passed _ _ _ (ap isRefused (sym (c .before .before .check-lent .ensures)) ∙ sym (c .before .refused .ensures) ∙ c .if1 .left)
 
 returns : tie.Need-returns
-returns c = find-refused (c .before .before .before .before .before .before .args .reg .now) (c .before .before .before .before .before .before .args .nodes .now) (c .before .before .before .before .before .before .args .list .now) _ (c .before .before .check-lent .ensures) (sym (c .before .refused .ensures) ∙ c .if1 .taken)
+returns c =
+    let at-check-lent = c .before .before in
+    let start = at-check-lent .before .before .before .before in
+    find-refused (start .args .reg .now) (start .args .nodes .now) (start .args .list .now) _ (at-check-lent .check-lent .ensures) (sym (c .before .refused .ensures) ∙ c .if1 .taken)
 
 has-room-requires : tie.Need-has-room-requires
 has-room-requires c κs = search needs
 
 returns-2 : tie.Need-returns-2
-returns-2 c = find-long (c .before .before .before .before .before .before .before .before .args .reg .now) (c .before .before .before .before .before .before .before .before .args .nodes .now) (c .before .before .before .before .before .before .before .before .args .list .now) _ (c .before .before .before .before .check-lent .ensures) (sym (c .before .before .before .refused .ensures) ∙ c .before .before .if1 .left) (lent-sound _ _ (passed (c .before .before) .both)) (sym (c .before .has-room .ensures) ∙ not-true _ (c .if2 .taken))
+returns-2 c =
+    let at-if1 = c .before .before in
+    let at-refused = at-if1 .before in
+    let at-check-lent = at-refused .before in
+    let start = at-check-lent .before .before .before .before in
+    find-long (start .args .reg .now) (start .args .nodes .now) (start .args .list .now) _ (at-check-lent .check-lent .ensures) (sym (at-refused .refused .ensures) ∙ at-if1 .if1 .left) (lent-sound _ _ (passed (at-if1) .both)) (sym (c .before .has-room .ensures) ∙ not-true _ (c .if2 .taken))
 
 -- it has room in a row
 few : (c : tie.Else2) → length (units (c .before .before .before .before .before .before .before .before .args .list .now)) ≤ mostUnits
-few c = leb-true (length (units (c .before .before .before .before .before .before .before .before .args .list .now))) mostUnits (sym (c .before .has-room .ensures) ∙ not-false _ (c .if2 .left))
+few c =
+    let start = c .before .before .before .before .before .before .before .before in
+    leb-true (length (units (start .args .list .now))) mostUnits (sym (c .before .has-room .ensures) ∙ not-false _ (c .if2 .left))
 
 row-of-requires : tie.Need-row-of-requires
 row-of-requires c κs = few c
 
 find-requires : tie.Need-find-requires
-find-requires c κs = (lent-sound _ _ (passed (c .before .before .before) .both), row-short _ (c .before .before .before .before .before .before .before .before .before .args .list .now) (c .row-of .ensures) (few (c .before)))
+find-requires c κs =
+    let p3 = c .before .before .before in
+    let start = p3 .before .before .before .before .before .before in
+    (lent-sound _ _ (passed (p3) .both), row-short _ (start .args .list .now) (c .row-of .ensures) (few (c .before)))
 
 found-answer-requires : tie.Need-found-answer-requires
 found-answer-requires c κs = search needs
 
 returns-3 : tie.Need-returns-3
-returns-3 c = c .found-answer .ensures ∙ c .before .find .ensures ∙ find-done (c .before .before .before .before .before .before .before .before .before .before .before .args .reg .now) (c .before .before .before .before .before .before .before .before .before .before .before .args .nodes .now) (c .before .before .before .before .before .before .before .before .before .before .before .args .list .now) _ (c .before .before .before .before .before .before .before .check-lent .ensures) _ (sym (c .before .before .before .before .before .before .refused .ensures) ∙ c .before .before .before .before .before .if1 .left) (row-units _ (c .before .before .before .before .before .before .before .before .before .before .before .args .list .now) (c .before .before .row-of .ensures))
+returns-3 c =
+    let at-row-of = c .before .before in
+    let at-if1 = at-row-of .before .before .before in
+    let at-refused = at-if1 .before in
+    let at-check-lent = at-refused .before in
+    let start = at-check-lent .before .before .before .before in
+    c .found-answer .ensures ∙ c .before .find .ensures ∙ find-done (start .args .reg .now) (start .args .nodes .now) (start .args .list .now) _ (at-check-lent .check-lent .ensures) _ (sym (at-refused .refused .ensures) ∙ at-if1 .if1 .left) (row-units _ (start .args .list .now) (at-row-of .row-of .ensures))
 
 pub find-spec : {M : Type 1} → statement M
 find-spec =

@@ -62,7 +62,8 @@ module _ (t : ℕ) where
   returns : lts.Need-returns (R t) (At t) own.Post
   returns c =
       let start = c .before .before .before .before in
-      nodes-none (tag (start .args .nodes .now)) (shortAt (start .args .bin .now) (start .args .nodes .now)) (start .args .tags .now) (start .args .shorts .now) (start .args .n) (none-at (start .pre .1 .0) (c .if1 .taken))
+      let a = start .args in
+      nodes-none (tag (a .nodes .now)) (shortAt (a .bin .now) (a .nodes .now)) (a .tags .now) (a .shorts .now) (a .n) (none-at (start .pre .1 .0) (c .if1 .taken))
 
   label-at-requires : lts.Need-label-at-requires (R t) (At t) own.Post
   label-at-requires c κs = link-inside (c .before .before .before .before .pre .1 .0) (c .if1 .left)

@@ -33,8 +33,11 @@ returns c =
     let at-least = at-node-count .before in
     let at-quantities-of = at-least .before in
     let start = at-quantities-of .before .before .before .before .before in
-    let a = start .args in let S = start .pre .0 .shape in let g = start .pre .1 .0 in let e = at-quantities-of .quantities-of .ensures in
-    all-done (tags-are (a .d) (a .bin .now) S g e) (shorts-are (a .d) (a .bin .now) S g e) (a .tags .now) (a .shorts .now) (at-least .least .ensures) (at-set-almost .set-almost .ensures) refl refl
+    let a = start .args in
+    let S = start .pre .0 .shape in
+    let ts = tags-are (a .d) (a .bin .now) S (start .pre .1 .0) (at-quantities-of .quantities-of .ensures) in
+    let ss = shorts-are (a .d) (a .bin .now) S (start .pre .1 .0) (at-quantities-of .quantities-of .ensures) in
+    all-done ts ss (a .tags .now) (a .shorts .now) (at-least .least .ensures) (at-set-almost .set-almost .ensures) refl refl
     (omega (arith, no-more-than-nodes (at-quantities-of .quantities-of .result) (a .d) S (at-set-almost .set-almost .ensures) (at-node-count .node-count .ensures), at-if1 .if1 .taken)) (at-set-almost .set-almost .ensures)
 
 sub-set-almost : tie.Need-sub-set-almost
@@ -70,8 +73,11 @@ returns-2 c =
     let at-least = at-set-almost2 .before .before .before .before .before .before in
     let at-quantities-of = at-least .before in
     let start = at-quantities-of .before .before .before .before .before in
-    let a = start .args in let S = start .pre .0 .shape in let g = start .pre .1 .0 in let e = at-quantities-of .quantities-of .ensures in
-    all-refused (tags-are (a .d) (a .bin .now) S g e) (shorts-are (a .d) (a .bin .now) S g e) (a .tags .now) (a .shorts .now) (at-least .least .ensures) (at-set-almost2 .set-almost2 .ensures)
+    let a = start .args in
+    let S = start .pre .0 .shape in
+    let ts = tags-are (a .d) (a .bin .now) S (start .pre .1 .0) (at-quantities-of .quantities-of .ensures) in
+    let ss = shorts-are (a .d) (a .bin .now) S (start .pre .1 .0) (at-quantities-of .quantities-of .ensures) in
+    all-refused ts ss (a .tags .now) (a .shorts .now) (at-least .least .ensures) (at-set-almost2 .set-almost2 .ensures)
     (none-lent (at-set-almost2 .set-almost2 .ensures .one)) (none-lent (at-set-almost2 .set-almost2 .ensures .two)) (c .if2 .taken)
 
 set-almost-requires-3 : tie.Need-set-almost-requires-3
@@ -91,8 +97,11 @@ returns-3 c =
     let at-least = at-set-almost2 .before .before .before .before .before .before in
     let at-quantities-of = at-least .before in
     let start = at-quantities-of .before .before .before .before .before in
-    let a = start .args in let S = start .pre .0 .shape in let g = start .pre .1 .0 in let e = at-quantities-of .quantities-of .ensures in
-    all-done (tags-are (a .d) (a .bin .now) S g e) (shorts-are (a .d) (a .bin .now) S g e) (a .tags .now) (a .shorts .now) (at-least .least .ensures) (at-set-almost2 .set-almost2 .ensures)
+    let a = start .args in
+    let S = start .pre .0 .shape in
+    let ts = tags-are (a .d) (a .bin .now) S (start .pre .1 .0) (at-quantities-of .quantities-of .ensures) in
+    let ss = shorts-are (a .d) (a .bin .now) S (start .pre .1 .0) (at-quantities-of .quantities-of .ensures) in
+    all-done ts ss (a .tags .now) (a .shorts .now) (at-least .least .ensures) (at-set-almost2 .set-almost2 .ensures)
     (none-lent (at-set-almost2 .set-almost2 .ensures .one)) (none-lent (at-set-almost2 .set-almost2 .ensures .two)) (at-if2 .if2 .left) (at-set-almost3 .set-almost3 .ensures)
 
 pub all-almost-spec : {M : Type 1} → statement M
