@@ -61,12 +61,15 @@ module _ (t : ℕ) where
 
   returns : lts.Need-returns (R t) (At t) own.Post
   returns c =
-      let start = c .before .before .before .before in
+      let start : lts.Start (R t) (At t) own.Post = search in
       let a = start .args in
-      nodes-none (tag (a .nodes .now)) (shortAt (a .bin .now) (a .nodes .now)) (a .tags .now) (a .shorts .now) (a .n) (none-at (start .pre .1 .0) (c .if1 .taken))
+      nodes-none (tag (a .nodes .now)) (shortAt (a .bin .now) (a .nodes .now)) (a .tags .now) (a .shorts .now) (a .n)
+      (none-at (start .pre .1 .0) (c .if1 .taken))
 
   label-at-requires : lts.Need-label-at-requires (R t) (At t) own.Post
-  label-at-requires c κs = link-inside (c .before .before .before .before .pre .1 .0) (c .if1 .left)
+  label-at-requires c κs =
+      let start : lts.Start (R t) (At t) own.Post = search in
+      link-inside (start .pre .1 .0) (c .if1 .left)
 
   pass-requires : lts.Need-pass-requires (R t) (At t) own.Post
   pass-requires c κs = may-pass (v c)
@@ -76,105 +79,133 @@ module _ (t : ℕ) where
 
   list-almost-requires : lts.Need-list-almost-requires (R t) (At t) own.Post
   list-almost-requires c κs =
-      let at-if2 = c .before .before in
-      let at-next-at = at-if2 .before .before in
-      let at-pass = at-next-at .before in
-      let p6 = at-pass .before in
-      let start = p6 .before .before .before .before .before in
-      let h = to-next (v p6) (at-next-at .next-at .ensures .0) in
-      let same = left-out (v p6) (at-pass .pass .ensures) (at-if2 .if2 .taken) (at-next-at .next-at .ensures .0) in
+      let at-next-at : lts.After-next-at (R t) (At t) own.Post = search in
+      let at-pass : lts.After-pass (R t) (At t) own.Post = search in
+      let at-label-at : lts.After-label-at (R t) (At t) own.Post = search in
+      let start : lts.Start (R t) (At t) own.Post = search in
+      let h = to-next (v at-label-at) (at-next-at .next-at .ensures .0) in
+      let same = left-out (v at-label-at) (at-pass .pass .ensures) (c .before .before .if2 .taken)
+      (at-next-at .next-at .ensures .0) in
       (h .0, (h .1, omega (arith, start .pre .1 .1, ap length same)))
 
   same-length : lts.Need-same-length (R t) (At t) own.Post
-  same-length c = c .before .before .before .before .list-almost .kept .1 .1 .0
+  same-length c =
+      let at-list-almost : lts.After-list-almost (R t) (At t) own.Post = search in
+      at-list-almost .list-almost .kept .1 .1 .0
 
   same-length-2 : lts.Need-same-length-2 (R t) (At t) own.Post
-  same-length-2 c = c .before .before .before .before .list-almost .kept .1 .1 .1 .0
+  same-length-2 c =
+      let at-list-almost : lts.After-list-almost (R t) (At t) own.Post = search in
+      at-list-almost .list-almost .kept .1 .1 .1 .0
 
   returns-2 : lts.Need-returns-2 (R t) (At t) own.Post
   returns-2 c =
-      let at-list-almost = c .before .before .before .before in
-      let at-if2 = at-list-almost .before .before .before in
-      let at-next-at = at-if2 .before .before in
-      let at-pass = at-next-at .before in
-      let p11 = at-pass .before in
-      let start = p11 .before .before .before .before .before in
+      let at-list-almost : lts.After-list-almost (R t) (At t) own.Post = search in
+      let then2 : lts.Then2 (R t) (At t) own.Post = search in
+      let at-next-at : lts.After-next-at (R t) (At t) own.Post = search in
+      let at-pass : lts.After-pass (R t) (At t) own.Post = search in
+      let at-label-at : lts.After-label-at (R t) (At t) own.Post = search in
+      let start : lts.Start (R t) (At t) own.Post = search in
       nodes-same (tag (start .args .nodes .now)) (shortAt (start .args .bin .now) (start .args .nodes .now))
-      (left-out (v p11) (at-pass .pass .ensures) (at-if2 .if2 .taken) (at-next-at .next-at .ensures .0)) (at-list-almost .list-almost .ensures)
+      (left-out (v at-label-at) (at-pass .pass .ensures) (then2 .if2 .taken) (at-next-at .next-at .ensures .0))
+      (at-list-almost .list-almost .ensures)
 
   tag-at-requires : lts.Need-tag-at-requires (R t) (At t) own.Post
   tag-at-requires c κs =
-      let p6 = c .before .before .before .before .before .before in
-      in-table (v p6)
+      let at-label-at : lts.After-label-at (R t) (At t) own.Post = search in
+      in-table (v at-label-at)
 
   put-both-requires : lts.Need-put-both-requires (R t) (At t) own.Post
   put-both-requires c κs =
-      let at-if2 = c .before .before .before in
-      let at-pass = at-if2 .before .before .before in
-      let p7 = at-pass .before in
-      let start = p7 .before .before .before .before .before in
-      omega (arith, start .pre .1 .1, room (v p7) (at-pass .pass .ensures) (at-if2 .if2 .left) refl refl (c .tag-at .ensures))
+      let else2 : lts.Else2 (R t) (At t) own.Post = search in
+      let at-pass : lts.After-pass (R t) (At t) own.Post = search in
+      let at-label-at : lts.After-label-at (R t) (At t) own.Post = search in
+      let start : lts.Start (R t) (At t) own.Post = search in
+      omega (
+        arith,
+        start .pre .1 .1,
+        room (v at-label-at) (at-pass .pass .ensures) (else2 .if2 .left) refl refl
+            (c .tag-at .ensures),
+      )
 
   child-at-requires : lts.Need-child-at-requires (R t) (At t) own.Post
   child-at-requires c κs =
-      let p14 = c .before .before .before .before .before .before .before .before .before .before .before .before .before .before in
-      in-table (v p14)
+      let at-label-at : lts.After-label-at (R t) (At t) own.Post = search in
+      in-table (v at-label-at)
 
   list-almost-requires-2 : lts.Need-list-almost-requires-2 (R t) (At t) own.Post
   list-almost-requires-2 c κs =
-      let at-put-both = c .before .before .before .before .before .before .before in
-      let at-tag-at = at-put-both .before in
-      let at-if2 = at-tag-at .before .before .before in
-      let at-pass = at-if2 .before .before .before in
-      let p15 = at-pass .before in
-      let start = p15 .before .before .before .before .before in
-      let h = to-child (v p15) (at-pass .pass .ensures) (at-if2 .if2 .left) (c .child-at .ensures .0) in
-      let many = room (v p15) (at-pass .pass .ensures) (at-if2 .if2 .left) (c .child-at .ensures .0) refl (at-tag-at .tag-at .ensures) in
+      let at-put-both : lts.After-put-both (R t) (At t) own.Post = search in
+      let at-tag-at : lts.After-tag-at (R t) (At t) own.Post = search in
+      let else2 : lts.Else2 (R t) (At t) own.Post = search in
+      let at-pass : lts.After-pass (R t) (At t) own.Post = search in
+      let at-label-at : lts.After-label-at (R t) (At t) own.Post = search in
+      let start : lts.Start (R t) (At t) own.Post = search in
+      let h = to-child (v at-label-at) (at-pass .pass .ensures) (else2 .if2 .left) (c .child-at .ensures .0) in
+      let many = room (v at-label-at) (at-pass .pass .ensures) (else2 .if2 .left) (c .child-at .ensures .0) refl
+      (at-tag-at .tag-at .ensures) in
       (h .0, (h .1, omega (arith, start .pre .1 .1, at-put-both .put-both .ensures .one .ends, many)))
 
   list-almost-requires-3 : lts.Need-list-almost-requires-3 (R t) (At t) own.Post
   list-almost-requires-3 c κs =
-      let at-list-almost2 = c .before .before .before .before .before .before in
-      let at-child-at = at-list-almost2 .before in
-      let at-put-both = at-child-at .before .before .before .before .before .before .before in
-      let at-tag-at = at-put-both .before in
-      let at-if2 = at-tag-at .before .before .before in
-      let at-next-at = at-if2 .before .before in
-      let at-pass = at-next-at .before in
-      let p22 = at-pass .before in
-      let start = p22 .before .before .before .before .before in
-      let h = to-next (v p22) (at-next-at .next-at .ensures .0) in
-      let below = foundFrom (almost (start .args .bin .now) (start .args .d)) (start .args .nodes .now) (at-child-at .child-at .result) in
-      let many = room (v p22) (at-pass .pass .ensures) (at-if2 .if2 .left) (at-child-at .child-at .ensures .0) (at-next-at .next-at .ensures .0) (at-tag-at .tag-at .ensures) in
-      let own = at-put-both .put-both .ensures .one .ends in
-      (h .0, (h .1, omega (arith, start .pre .1 .1, own, at-list-almost2 .list-almost2 .ensures .one .ends, length-map below (tag (start .args .nodes .now)), many)))
+      let at-list-almost2 : lts.After-list-almost2 (R t) (At t) own.Post = search in
+      let at-child-at : lts.After-child-at (R t) (At t) own.Post = search in
+      let at-put-both : lts.After-put-both (R t) (At t) own.Post = search in
+      let at-tag-at : lts.After-tag-at (R t) (At t) own.Post = search in
+      let else2 : lts.Else2 (R t) (At t) own.Post = search in
+      let at-next-at : lts.After-next-at (R t) (At t) own.Post = search in
+      let at-pass : lts.After-pass (R t) (At t) own.Post = search in
+      let at-label-at : lts.After-label-at (R t) (At t) own.Post = search in
+      let start : lts.Start (R t) (At t) own.Post = search in
+      let h = to-next (v at-label-at) (at-next-at .next-at .ensures .0) in
+      let below = foundFrom (almost (start .args .bin .now) (start .args .d)) (start .args .nodes .now)
+      (at-child-at .child-at .result) in
+      let many = room (v at-label-at) (at-pass .pass .ensures) (else2 .if2 .left) (at-child-at .child-at .ensures .0)
+      (at-next-at .next-at .ensures .0) (at-tag-at .tag-at .ensures) in
+      let own = at-put-both .put-both .ensures .one .ends in (
+        h .0,
+        (
+          h .1,
+          omega (
+            arith,
+            start .pre .1 .1,
+            own,
+            at-list-almost2 .list-almost2 .ensures .one .ends,
+            length-map below
+                (tag (start .args .nodes .now)),
+            many,
+          ),
+        ),
+      )
 
   same-length-3 : lts.Need-same-length-3 (R t) (At t) own.Post
   same-length-3 c =
-      let at-list-almost3 = c .before .before .before .before in
-      let at-list-almost2 = at-list-almost3 .before .before .before .before .before .before .before in
-      let at-put-both = at-list-almost2 .before .before .before .before .before .before .before .before in
+      let at-list-almost3 : lts.After-list-almost3 (R t) (At t) own.Post = search in
+      let at-list-almost2 : lts.After-list-almost2 (R t) (At t) own.Post = search in
+      let at-put-both : lts.After-put-both (R t) (At t) own.Post = search in
       at-list-almost3 .list-almost3 .kept .1 .1 .0 ∙ at-list-almost2 .list-almost2 .kept .1 .1 .0 ∙ at-put-both .put-both .kept .0
 
   same-length-4 : lts.Need-same-length-4 (R t) (At t) own.Post
   same-length-4 c =
-      let at-list-almost3 = c .before .before .before .before in
-      let at-list-almost2 = at-list-almost3 .before .before .before .before .before .before .before in
-      let at-put-both = at-list-almost2 .before .before .before .before .before .before .before .before in
-      at-list-almost3 .list-almost3 .kept .1 .1 .1 .0 ∙ at-list-almost2 .list-almost2 .kept .1 .1 .1 .0 ∙ at-put-both .put-both .kept .1 .0
+      let at-list-almost3 : lts.After-list-almost3 (R t) (At t) own.Post = search in
+      let at-list-almost2 : lts.After-list-almost2 (R t) (At t) own.Post = search in
+      let at-put-both : lts.After-put-both (R t) (At t) own.Post = search in
+      at-list-almost3 .list-almost3 .kept .1 .1 .1 .0 ∙ at-list-almost2 .list-almost2 .kept .1 .1 .1 .0
+      ∙ at-put-both .put-both .kept .1 .0
 
   returns-3 : lts.Need-returns-3 (R t) (At t) own.Post
   returns-3 c =
-      let at-list-almost3 = c .before .before .before .before in
-      let at-list-almost2 = at-list-almost3 .before .before .before .before .before .before .before in
-      let at-child-at = at-list-almost2 .before in
-      let at-put-both = at-child-at .before .before .before .before .before .before .before in
-      let at-tag-at = at-put-both .before in
-      let at-if2 = at-tag-at .before .before .before in
-      let at-next-at = at-if2 .before .before in
-      let at-pass = at-next-at .before in
-      let p27 = at-pass .before in
-      set-down (v p27) (at-pass .pass .ensures) (at-if2 .if2 .left) (at-child-at .child-at .ensures .0) (at-next-at .next-at .ensures .0) (at-tag-at .tag-at .ensures)
+      let at-list-almost3 : lts.After-list-almost3 (R t) (At t) own.Post = search in
+      let at-list-almost2 : lts.After-list-almost2 (R t) (At t) own.Post = search in
+      let at-child-at : lts.After-child-at (R t) (At t) own.Post = search in
+      let at-put-both : lts.After-put-both (R t) (At t) own.Post = search in
+      let at-tag-at : lts.After-tag-at (R t) (At t) own.Post = search in
+      let else2 : lts.Else2 (R t) (At t) own.Post = search in
+      let at-next-at : lts.After-next-at (R t) (At t) own.Post = search in
+      let at-pass : lts.After-pass (R t) (At t) own.Post = search in
+      let at-label-at : lts.After-label-at (R t) (At t) own.Post = search in
+      set-down (v at-label-at) (at-pass .pass .ensures) (else2 .if2 .left) (at-child-at .child-at .ensures .0)
+      (at-next-at .next-at .ensures .0) (at-tag-at .tag-at .ensures)
       (at-put-both .put-both .ensures) (at-list-almost2 .list-almost2 .ensures) (at-list-almost3 .list-almost3 .ensures)
 
 pub +list-almost-spec : {M : Type 1} → statement M

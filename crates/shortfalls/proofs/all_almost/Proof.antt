@@ -1,4 +1,5 @@
--- With room for as many kits as there are nodes they are set down at once; otherwise counted where nothing is lent, and then refused or set down.
+-- With room for as many kits as there are nodes they are set down at once; otherwise counted where nothing is lent, and then
+-- refused or set down.
 use mathlib.Core.Path.{refl}
 use native.Mathlib.Omega.{arith}
 use Rattle.questions.proofs.Answered.{none-lent}
@@ -27,18 +28,23 @@ same-length-2 c = search needs
 
 returns : tie.Need-returns
 returns c =
-    let at-set-almost = c .before .before .before .before in
-    let at-if1 = at-set-almost .before .before .before .before in
-    let at-node-count = at-if1 .before in
-    let at-least = at-node-count .before in
-    let at-quantities-of = at-least .before in
-    let start = at-quantities-of .before .before .before .before .before in
+    let at-set-almost : tie.After-set-almost = search in
+    let then1 : tie.Then1 = search in
+    let at-node-count : tie.After-node-count = search in
+    let at-least : tie.After-least = search in
+    let at-quantities-of : tie.After-quantities-of = search in
+    let start : tie.Start = search in
     let a = start .args in
     let S = start .pre .0 .shape in
     let ts = tags-are (a .d) (a .bin .now) S (start .pre .1 .0) (at-quantities-of .quantities-of .ensures) in
     let ss = shorts-are (a .d) (a .bin .now) S (start .pre .1 .0) (at-quantities-of .quantities-of .ensures) in
     all-done ts ss (a .tags .now) (a .shorts .now) (at-least .least .ensures) (at-set-almost .set-almost .ensures) refl refl
-    (omega (arith, no-more-than-nodes (at-quantities-of .quantities-of .result) (a .d) S (at-set-almost .set-almost .ensures) (at-node-count .node-count .ensures), at-if1 .if1 .taken)) (at-set-almost .set-almost .ensures)
+    (omega (
+      arith,
+      no-more-than-nodes (at-quantities-of .quantities-of .result) (a .d) S (at-set-almost .set-almost .ensures)
+          (at-node-count .node-count .ensures),
+      then1 .if1 .taken,
+    )) (at-set-almost .set-almost .ensures)
 
 sub-set-almost : tie.Need-sub-set-almost
 sub-set-almost c = search needs
@@ -69,16 +75,17 @@ same-length-4 c = search needs
 
 returns-2 : tie.Need-returns-2
 returns-2 c =
-    let at-set-almost2 = c .before .before .before .before .before in
-    let at-least = at-set-almost2 .before .before .before .before .before .before in
-    let at-quantities-of = at-least .before in
-    let start = at-quantities-of .before .before .before .before .before in
+    let at-set-almost2 : tie.After-set-almost2 = search in
+    let at-least : tie.After-least = search in
+    let at-quantities-of : tie.After-quantities-of = search in
+    let start : tie.Start = search in
     let a = start .args in
     let S = start .pre .0 .shape in
     let ts = tags-are (a .d) (a .bin .now) S (start .pre .1 .0) (at-quantities-of .quantities-of .ensures) in
     let ss = shorts-are (a .d) (a .bin .now) S (start .pre .1 .0) (at-quantities-of .quantities-of .ensures) in
     all-refused ts ss (a .tags .now) (a .shorts .now) (at-least .least .ensures) (at-set-almost2 .set-almost2 .ensures)
-    (none-lent (at-set-almost2 .set-almost2 .ensures .one)) (none-lent (at-set-almost2 .set-almost2 .ensures .two)) (c .if2 .taken)
+    (none-lent (at-set-almost2 .set-almost2 .ensures .one)) (none-lent (at-set-almost2 .set-almost2 .ensures .two))
+    (c .if2 .taken)
 
 set-almost-requires-3 : tie.Need-set-almost-requires-3
 set-almost-requires-3 c κs = search needs
@@ -91,18 +98,19 @@ same-length-6 c = search needs
 
 returns-3 : tie.Need-returns-3
 returns-3 c =
-    let at-set-almost3 = c .before .before .before .before in
-    let at-if2 = at-set-almost3 .before .before .before .before in
-    let at-set-almost2 = at-if2 .before .before .before .before .before in
-    let at-least = at-set-almost2 .before .before .before .before .before .before in
-    let at-quantities-of = at-least .before in
-    let start = at-quantities-of .before .before .before .before .before in
+    let at-set-almost3 : tie.After-set-almost3 = search in
+    let else2 : tie.Else2 = search in
+    let at-set-almost2 : tie.After-set-almost2 = search in
+    let at-least : tie.After-least = search in
+    let at-quantities-of : tie.After-quantities-of = search in
+    let start : tie.Start = search in
     let a = start .args in
     let S = start .pre .0 .shape in
     let ts = tags-are (a .d) (a .bin .now) S (start .pre .1 .0) (at-quantities-of .quantities-of .ensures) in
     let ss = shorts-are (a .d) (a .bin .now) S (start .pre .1 .0) (at-quantities-of .quantities-of .ensures) in
     all-done ts ss (a .tags .now) (a .shorts .now) (at-least .least .ensures) (at-set-almost2 .set-almost2 .ensures)
-    (none-lent (at-set-almost2 .set-almost2 .ensures .one)) (none-lent (at-set-almost2 .set-almost2 .ensures .two)) (at-if2 .if2 .left) (at-set-almost3 .set-almost3 .ensures)
+    (none-lent (at-set-almost2 .set-almost2 .ensures .one)) (none-lent (at-set-almost2 .set-almost2 .ensures .two))
+    (else2 .if2 .left) (at-set-almost3 .set-almost3 .ensures)
 
 pub all-almost-spec : {M : Type 1} → statement M
 all-almost-spec =

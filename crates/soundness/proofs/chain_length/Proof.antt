@@ -19,24 +19,25 @@ next-at-requires c κs = c .before .loop .inv .live (omega (arith, c .loop-test 
 
 add-k : tie.Need-add-k Inv-loop μ-loop
 add-k c =
-    let at-loop = c .before .before in
-    let start = at-loop .before .before in
-    omega (arith, along-more (start .pre .0) (at-loop .loop .inv) (omega (arith, c .before .loop-test .taken)))
+    let start : tie.Start Inv-loop μ-loop = search in
+    omega (arith, along-more (start .pre .0) (c .before .before .loop .inv) (omega (arith, c .before .loop-test .taken)))
 
 loop-less : tie.Need-loop-less Inv-loop μ-loop
 loop-less c =
-    let at-loop = c .before .before in
-    let start = at-loop .before .before in
-    along-less (start .pre .0) (at-loop .loop .inv) (omega (arith, c .before .loop-test .taken)) (c .next-at .ensures .0)
+    let start : tie.Start Inv-loop μ-loop = search in
+    along-less (start .pre .0) (c .before .before .loop .inv) (omega (arith, c .before .loop-test .taken))
+    (c .next-at .ensures .0)
 
 loop-again : tie.Need-loop-again Inv-loop μ-loop
 loop-again c =
-    let at-loop = c .before .before in
-    let start = at-loop .before .before in
-    along-next (start .pre .0) (at-loop .loop .inv) (omega (arith, c .before .loop-test .taken)) (c .next-at .ensures .0)
+    let start : tie.Start Inv-loop μ-loop = search in
+    along-next (start .pre .0) (c .before .before .loop .inv) (omega (arith, c .before .loop-test .taken))
+    (c .next-at .ensures .0)
 
 returns : tie.Need-returns Inv-loop μ-loop
-returns c = along-end (c .before .before .before .pre .0) (c .before .loop .inv) (c .loop-test .left)
+returns c =
+    let start : tie.Start Inv-loop μ-loop = search in
+    along-end (start .pre .0) (c .before .loop .inv) (c .loop-test .left)
 
 pub chain-length-spec : {M : Type 1} → statement M
 chain-length-spec =

@@ -22,50 +22,61 @@ child-at-requires c κs = omega (arith, c .before .loop .inv .all-nodes)
 
 chain-length-requires : tie.Need-chain-length-requires Inv-loop μ-loop
 chain-length-requires c κs =
-    let at-loop = c .before .before in
-    let start = at-loop .before .before .before in
-    (start .pre .links .along, λ g. rw (c .child-at .ensures .0) (start .pre .links .down _ (omega (arith, at-loop .loop .inv .all-nodes)) (omega (arith, c .child-at .ensures .0))))
+    let start : tie.Start Inv-loop μ-loop = search in (
+      start .pre .links .along,
+      λ g. rw (c .child-at .ensures .0)
+          (start .pre .links .down _ (omega (arith, c .before .before .loop .inv .all-nodes)) (omega (arith, c .child-at .ensures .0))),
+    )
 
 add-met : tie.Need-add-met Inv-loop μ-loop
 add-met c =
-    let at-loop-test = c .before .before in
-    let at-loop = at-loop-test .before in
-    let start = at-loop .before .before .before in
-    omega (arith, count-fits (at-loop .loop .inv) (at-loop-test .loop-test .taken) (c .before .child-at .ensures .0) (c .chain-length .ensures) (start .pre))
+    let at-loop : tie.At-loop Inv-loop μ-loop = search in
+    let start : tie.Start Inv-loop μ-loop = search in
+    omega (
+      arith,
+      count-fits (at-loop .loop .inv) (c .before .before .loop-test .taken) (c .before .child-at .ensures .0)
+          (c .chain-length .ensures) (start .pre),
+    )
 
 label-at-requires : tie.Need-label-at-requires Inv-loop μ-loop
-label-at-requires c κs = omega (arith, c .before .before .before .loop .inv .all-nodes)
+label-at-requires c κs =
+    let at-loop : tie.At-loop Inv-loop μ-loop = search in
+    omega (arith, at-loop .loop .inv .all-nodes)
 
 add-i : tie.Need-add-i Inv-loop μ-loop
 add-i c = omega arith
 
 add-used : tie.Need-add-used Inv-loop μ-loop
-add-used c = omega (arith, c .before .before .before .before .before .loop .inv .fewer)
+add-used c =
+    let at-loop : tie.At-loop Inv-loop μ-loop = search in
+    omega (arith, at-loop .loop .inv .fewer)
 
 loop-less : tie.Need-loop-less Inv-loop μ-loop
 loop-less c = omega arith
 
 loop-again : tie.Need-loop-again Inv-loop μ-loop
 loop-again c =
-    let at-chain-length = c .before .before in
-    let at-child-at = at-chain-length .before in
-    let at-loop-test = at-child-at .before in
-    let at-loop = at-loop-test .before in
-    count-used (at-loop .loop .inv) (at-loop-test .loop-test .taken) (at-child-at .child-at .ensures .0) (at-chain-length .chain-length .ensures) (c .before .label-at .ensures) (c .if1 .taken)
+    let at-child-at : tie.After-child-at Inv-loop μ-loop = search in
+    let in-loop : tie.In-loop Inv-loop μ-loop = search in
+    let at-loop : tie.At-loop Inv-loop μ-loop = search in
+    count-used (at-loop .loop .inv) (in-loop .loop-test .taken) (at-child-at .child-at .ensures .0)
+    (c .before .before .chain-length .ensures) (c .before .label-at .ensures) (c .if1 .taken)
 
 loop-less-2 : tie.Need-loop-less-2 Inv-loop μ-loop
 loop-less-2 c = omega arith
 
 loop-again-2 : tie.Need-loop-again-2 Inv-loop μ-loop
 loop-again-2 c =
-    let at-chain-length = c .before .before in
-    let at-child-at = at-chain-length .before in
-    let at-loop-test = at-child-at .before in
-    let at-loop = at-loop-test .before in
-    count-free (at-loop .loop .inv) (at-loop-test .loop-test .taken) (at-child-at .child-at .ensures .0) (at-chain-length .chain-length .ensures) (c .before .label-at .ensures) (c .if1 .left)
+    let at-child-at : tie.After-child-at Inv-loop μ-loop = search in
+    let in-loop : tie.In-loop Inv-loop μ-loop = search in
+    let at-loop : tie.At-loop Inv-loop μ-loop = search in
+    count-free (at-loop .loop .inv) (in-loop .loop-test .taken) (at-child-at .child-at .ensures .0)
+    (c .before .before .chain-length .ensures) (c .before .label-at .ensures) (c .if1 .left)
 
 returns : tie.Need-returns Inv-loop μ-loop
-returns c = count-says (c .before .loop .inv) (c .before .before .before .before .pre) (c .loop-test .left)
+returns c =
+    let start : tie.Start Inv-loop μ-loop = search in
+    count-says (c .before .loop .inv) (start .pre) (c .loop-test .left)
 
 pub chains-ok-spec : {M : Type 1} → statement M
 chains-ok-spec =

@@ -15,27 +15,26 @@ child-at-requires c κs = search needs
 
 label-at-requires-2 : tie.Need-label-at-requires-2
 label-at-requires-2 c κs =
-    let at-label = c .before .before in
-    let start = at-label .before .before in
-    child-inside (at-label .label-at .ensures) (c .child-at .ensures .0) (start .pre .0) (start .pre .1)
+    let start : tie.Start = search in
+    child-inside (c .before .before .label-at .ensures) (c .child-at .ensures .0) (start .pre .0) (start .pre .1)
 
 returns-2 : tie.Need-returns-2
 returns-2 c =
-    let at-child = c .before .before in
-    last-goes-on (at-child .before .before .label-at .ensures) (at-child .child-at .ensures .0) (c .before .label-at2 .ensures) (c .if2 .taken)
+    let at-label-at : tie.After-label-at = search in
+    last-goes-on (at-label-at .label-at .ensures) (c .before .before .child-at .ensures .0) (c .before .label-at2 .ensures)
+    (c .if2 .taken)
 
 few-ok-requires : tie.Need-few-ok-requires
 few-ok-requires c κs = search needs
 
 returns-3 : tie.Need-returns-3
 returns-3 c =
-    let at-label-at2 = c .before .before in
-    let p3 = at-label-at2 .before in
-    let at-child = p3 in
+    let at-child-at : tie.After-child-at = search in
+    let at-child = at-child-at in
     last-says
     (at-child .before .before .label-at .ensures)
     (at-child .child-at .ensures .0)
-    (at-label-at2 .label-at2 .ensures)
+    (c .before .before .label-at2 .ensures)
     (at-child .before .if1 .left)
     (c .before .if2 .left)
     (c .few-ok .ensures)

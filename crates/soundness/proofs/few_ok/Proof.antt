@@ -22,44 +22,49 @@ parent-at-requires c κs = search needs
 
 loop-holds : tie.Need-loop-holds Inv-loop μ-loop
 loop-holds c =
-    let start = c .before .before .before in
+    let start : tie.Start Inv-loop μ-loop = search in
     climb-start (start .pre .0) (start .pre .1) (c .before .label-at .ensures) (c .parent-at .ensures .0)
 
 label-at-requires-2 : tie.Need-label-at-requires-2 Inv-loop μ-loop
-label-at-requires-2 c κs = live-inside (c .before .before .before .before .pre .0) _ (c .loop .inv .live)
+label-at-requires-2 c κs =
+    let start : tie.Start Inv-loop μ-loop = search in
+    live-inside (start .pre .0) _ (c .loop .inv .live)
 
 returns : tie.Need-returns Inv-loop μ-loop
 returns c =
-    let at-label-at2 = c .before .before in
-    let at-loop = at-label-at2 .before in
-    let start = at-loop .before .before .before .before in
-    climb-many (start .pre .0) (start .pre .1) (at-loop .loop .inv) (at-label-at2 .label-at2 .ensures) (c .before .if1 .taken) (c .if2 .taken)
+    let at-loop : tie.At-loop Inv-loop μ-loop = search in
+    let start : tie.Start Inv-loop μ-loop = search in
+    climb-many (start .pre .0) (start .pre .1) (at-loop .loop .inv) (c .before .before .label-at2 .ensures)
+    (c .before .if1 .taken) (c .if2 .taken)
 
 parent-at-requires-2 : tie.Need-parent-at-requires-2 Inv-loop μ-loop
 parent-at-requires-2 c κs =
-    let at-loop = c .before .before .before in
-    let start = at-loop .before .before .before .before in
+    let at-loop : tie.At-loop Inv-loop μ-loop = search in
+    let start : tie.Start Inv-loop μ-loop = search in
     live-inside (start .pre .0) _ (at-loop .loop .inv .live)
 
 add-m : tie.Need-add-m Inv-loop μ-loop
-add-m c = omega (arith, c .before .before .before .before .loop .inv .most)
+add-m c =
+    let at-loop : tie.At-loop Inv-loop μ-loop = search in
+    omega (arith, at-loop .loop .inv .most)
 
 loop-less : tie.Need-loop-less Inv-loop μ-loop
-loop-less c = omega (arith, c .before .before .before .before .loop .inv .most, c .before .if2 .left)
+loop-less c =
+    let at-loop : tie.At-loop Inv-loop μ-loop = search in
+    omega (arith, at-loop .loop .inv .most, c .before .if2 .left)
 
 loop-again : tie.Need-loop-again Inv-loop μ-loop
 loop-again c =
-    let at-if1 = c .before .before in
-    let at-label-at2 = at-if1 .before in
-    let at-loop = at-label-at2 .before in
-    let start = at-loop .before .before .before .before in
-    climb-next (start .pre .0) (start .pre .1) (at-loop .loop .inv) (at-label-at2 .label-at2 .ensures) (at-if1 .if1 .taken) (c .before .if2 .left) (c .parent-at2 .ensures .0)
+    let at-label-at2 : tie.After-label-at2 Inv-loop μ-loop = search in
+    let at-loop : tie.At-loop Inv-loop μ-loop = search in
+    let start : tie.Start Inv-loop μ-loop = search in
+    climb-next (start .pre .0) (start .pre .1) (at-loop .loop .inv) (at-label-at2 .label-at2 .ensures)
+    (c .before .before .if1 .taken) (c .before .if2 .left) (c .parent-at2 .ensures .0)
 
 returns-2 : tie.Need-returns-2 Inv-loop μ-loop
 returns-2 c =
-    let at-loop = c .before .before in
-    let start = at-loop .before .before .before .before in
-    climb-end (start .pre .0) (start .pre .1) (at-loop .loop .inv) (c .before .label-at2 .ensures) (c .if1 .left)
+    let start : tie.Start Inv-loop μ-loop = search in
+    climb-end (start .pre .0) (start .pre .1) (c .before .before .loop .inv) (c .before .label-at2 .ensures) (c .if1 .left)
 
 pub few-ok-spec : {M : Type 1} → statement M
 few-ok-spec =

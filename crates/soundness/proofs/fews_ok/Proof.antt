@@ -19,13 +19,14 @@ loop-holds : tie.Need-loop-holds Inv-loop μ-loop
 loop-holds c = pass-start (c .node-count .ensures)
 
 few-if-requires : tie.Need-few-if-requires Inv-loop μ-loop
-few-if-requires c κs = (c .before .before .before .before .pre, pass-inside (c .before .loop .inv) (c .loop-test .taken))
+few-if-requires c κs =
+    let start : tie.Start Inv-loop μ-loop = search in
+    (start .pre, pass-inside (c .before .loop .inv) (c .loop-test .taken))
 
 returns : tie.Need-returns Inv-loop μ-loop
 returns c =
-    let at-loop-test = c .before .before in
-    let at-loop = at-loop-test .before in
-    pass-refuses (at-loop .loop .inv) (at-loop-test .loop-test .taken) (c .before .few-if .ensures) (c .if1 .taken)
+    let at-loop : tie.At-loop Inv-loop μ-loop = search in
+    pass-refuses (at-loop .loop .inv) (c .before .before .loop-test .taken) (c .before .few-if .ensures) (c .if1 .taken)
 
 add-i : tie.Need-add-i Inv-loop μ-loop
 add-i c = omega arith
@@ -35,9 +36,8 @@ loop-less c = omega arith
 
 loop-again : tie.Need-loop-again Inv-loop μ-loop
 loop-again c =
-    let at-loop-test = c .before .before in
-    let at-loop = at-loop-test .before in
-    pass-on (at-loop .loop .inv) (at-loop-test .loop-test .taken) (c .before .few-if .ensures) (c .if1 .left)
+    let at-loop : tie.At-loop Inv-loop μ-loop = search in
+    pass-on (at-loop .loop .inv) (c .before .before .loop-test .taken) (c .before .few-if .ensures) (c .if1 .left)
 
 returns-2 : tie.Need-returns-2 Inv-loop μ-loop
 returns-2 c = pass-end (c .before .loop .inv) (omega arith)

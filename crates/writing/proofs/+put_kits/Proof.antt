@@ -44,44 +44,119 @@ R t = (
 )
 
 module _ (t : ℕ) where
-  used : (c : lts.Else1 (R t) (At t) own.Post) → Used (c .before .before .before .args .nodes .now) (c .before .before .before .args .link)
+  used : (c : lts.Else1 (R t) (At t) own.Post) →
+      Used (c .before .before .before .args .nodes .now) (c .before .before .before .args .link)
   used c = c .before .before .before .pre .1 .1 .0 (omega (arith, c .if1 .left))
 
   module _ (c : lts.After-slice-known2 (R t) (At t) own.Post) where
     abbrev below : List ℕ
-    below = recordsFrom (c .before .before .before .before .before .before .before .args .nodes .now) (child (c .before .before .before .before .before .before .before .args .nodes .now) (c .before .before .before .before .before .before .before .args .link))
+    below =
+        let start : lts.Start (R t) (At t) own.Post = search in
+        recordsFrom (start .args .nodes .now) (child (start .args .nodes .now) (start .args .link))
 
     abbrev behind : List ℕ
-    behind = recordsFrom (c .before .before .before .before .before .before .before .args .nodes .now) (next (c .before .before .before .before .before .before .before .args .nodes .now) (c .before .before .before .before .before .before .before .args .link))
+    behind =
+        let start : lts.Start (R t) (At t) own.Post = search in
+        recordsFrom (start .args .nodes .now) (next (start .args .nodes .now) (start .args .link))
 
-    first : Going (c .before .before .before .before .before .before .before .args .out .now) (c .before .before .put-own .last .0) (c .before .before .put-own .result) (below ++ behind) (recordsFrom (c .before .before .before .before .before .before .before .args .nodes .now) (c .before .before .before .before .before .before .before .args .link))
-    first = going-of (below ++ behind) (c .before .before .put-own .ensures) (from-some (c .before .before .before .before .before .before .before .args .nodes .now) (c .before .before .before .before .before .before .before .pre .1 .0) (c .before .before .before .before .before .before .before .args .link) (used (c .before .before .before .before))) (c .before .before .before .before .before .before .before .pre .1 .1 .1)
+    first :
+        let at-put-own : lts.After-put-own (R t) (At t) own.Post = search in
+        let start : lts.Start (R t) (At t) own.Post = search in
+        Going (start .args .out .now) (at-put-own .put-own .last .0) (at-put-own .put-own .result) (below ++ behind)
+        (recordsFrom (start .args .nodes .now) (start .args .link))
+    first =
+        let else1 : lts.Else1 (R t) (At t) own.Post = search in
+        let start : lts.Start (R t) (At t) own.Post = search in
+        going-of (below ++ behind) (c .before .before .put-own .ensures)
+        (from-some (start .args .nodes .now) (start .pre .1 .0) (start .args .link) (used else1)) (start .pre .1 .1 .1)
 
   module _ (c : lts.After-slice-known3 (R t) (At t) own.Post) where
-    below-down : SetDown (rest-of (c .before .before .before .before .before .before .before .put-own .last .0) (c .before .before .before .before .before .before .before .put-own .result)) (c .before .before .put-kits .last .0) (below (c .before .before .before .before .before)) (c .before .before .put-kits .result)
-    below-down = down-same (c .before .before .put-kits .ensures) (ap (recordsFrom (c .before .before .before .before .before .before .before .before .before .before .before .before .args .nodes .now)) (c .before .before .before .child-at .ensures .0))
+    below-down :
+        let at-put-kits : lts.After-put-kits (R t) (At t) own.Post = search in
+        let at-slice-known2 : lts.After-slice-known2 (R t) (At t) own.Post = search in
+        let at-put-own : lts.After-put-own (R t) (At t) own.Post = search in
+        SetDown (rest-of (at-put-own .put-own .last .0) (at-put-own .put-own .result)) (at-put-kits .put-kits .last .0)
+        (below at-slice-known2) (at-put-kits .put-kits .result)
+    below-down =
+        let at-child-at : lts.After-child-at (R t) (At t) own.Post = search in
+        let start : lts.Start (R t) (At t) own.Post = search in
+        down-same (c .before .before .put-kits .ensures)
+        (ap (recordsFrom (start .args .nodes .now)) (at-child-at .child-at .ensures .0))
 
-    below-ends : c .before .before .put-kits .result ≡ length (below (c .before .before .before .before .before))
+    below-ends :
+        let at-slice-known2 : lts.After-slice-known2 (R t) (At t) own.Post = search in
+        c .before .before .put-kits .result ≡ length (below at-slice-known2)
     below-ends = below-down .ends
 
-    second : Going (c .before .before .before .before .before .before .before .before .before .before .before .before .args .out .now) (back (c .before .before .before .before .before .before .before .put-own .last .0) (c .before .before .before .before .before .before .before .put-own .result) (c .before .before .put-kits .last .0)) (c .before .before .before .before .before .before .before .put-own .result + c .before .before .put-kits .result) (behind (c .before .before .before .before .before)) (recordsFrom (c .before .before .before .before .before .before .before .before .before .before .before .before .args .nodes .now) (c .before .before .before .before .before .before .before .before .before .before .before .before .args .link))
-    second = going-on (below (c .before .before .before .before .before)) (behind (c .before .before .before .before .before)) (first (c .before .before .before .before .before)) (c .before .before .put-kits .last .0) (c .before .before .put-kits .result) below-down
+    second :
+        let at-put-kits : lts.After-put-kits (R t) (At t) own.Post = search in
+        let at-slice-known2 : lts.After-slice-known2 (R t) (At t) own.Post = search in
+        let at-put-own : lts.After-put-own (R t) (At t) own.Post = search in
+        let start : lts.Start (R t) (At t) own.Post = search in
+        Going (start .args .out .now)
+        (back (at-put-own .put-own .last .0) (at-put-own .put-own .result) (at-put-kits .put-kits .last .0))
+        (at-put-own .put-own .result + at-put-kits .put-kits .result) (behind at-slice-known2)
+        (recordsFrom (start .args .nodes .now) (start .args .link))
+    second =
+        let at-put-kits : lts.After-put-kits (R t) (At t) own.Post = search in
+        let at-slice-known2 : lts.After-slice-known2 (R t) (At t) own.Post = search in
+        going-on (below at-slice-known2) (behind at-slice-known2) (first at-slice-known2) (at-put-kits .put-kits .last .0)
+        (at-put-kits .put-kits .result) below-down
 
   module _ (c : lts.After-slice-known4 (R t) (At t) own.Post) where
-    behind-down : SetDown (rest-of (back (c .before .before .before .before .before .before .before .before .before .before .before .before .put-own .last .0) (c .before .before .before .before .before .before .before .before .before .before .before .before .put-own .result) (c .before .before .before .before .before .before .before .put-kits .last .0)) (c .before .before .before .before .before .before .before .before .before .before .before .before .put-own .result + c .before .before .before .before .before .before .before .put-kits .result)) (c .before .before .put-kits2 .last .0) (behind (c .before .before .before .before .before .before .before .before .before .before)) (c .before .before .put-kits2 .result)
-    behind-down = down-same (c .before .before .put-kits2 .ensures) (ap (recordsFrom (c .before .before .before .before .before .before .before .before .before .before .before .before .before .before .before .before .before .args .nodes .now)) (c .before .before .before .next-at .ensures .0))
+    behind-down :
+        let at-put-kits2 : lts.After-put-kits2 (R t) (At t) own.Post = search in
+        let at-put-kits : lts.After-put-kits (R t) (At t) own.Post = search in
+        let at-slice-known2 : lts.After-slice-known2 (R t) (At t) own.Post = search in
+        let at-put-own : lts.After-put-own (R t) (At t) own.Post = search in
+        SetDown (rest-of (back (at-put-own .put-own .last .0) (at-put-own .put-own .result) (at-put-kits .put-kits .last .0))
+        (at-put-own .put-own .result + at-put-kits .put-kits .result)) (at-put-kits2 .put-kits2 .last .0) (behind at-slice-known2)
+        (at-put-kits2 .put-kits2 .result)
+    behind-down =
+        let at-next-at : lts.After-next-at (R t) (At t) own.Post = search in
+        let start : lts.Start (R t) (At t) own.Post = search in
+        down-same (c .before .before .put-kits2 .ensures)
+        (ap (recordsFrom (start .args .nodes .now)) (at-next-at .next-at .ensures .0))
 
-    behind-ends : c .before .before .put-kits2 .result ≡ length (behind (c .before .before .before .before .before .before .before .before .before .before))
+    behind-ends :
+        let at-slice-known2 : lts.After-slice-known2 (R t) (At t) own.Post = search in
+        c .before .before .put-kits2 .result ≡ length (behind at-slice-known2)
     behind-ends = behind-down .ends
 
-    third : SetDown (c .before .before .before .before .before .before .before .before .before .before .before .before .before .before .before .before .before .args .out .now) (back (back (c .before .before .before .before .before .before .before .before .before .before .before .before .put-own .last .0) (c .before .before .before .before .before .before .before .before .before .before .before .before .put-own .result) (c .before .before .before .before .before .before .before .put-kits .last .0)) (c .before .before .before .before .before .before .before .before .before .before .before .before .put-own .result + c .before .before .before .before .before .before .before .put-kits .result) (c .before .before .put-kits2 .last .0)) (recordsFrom (c .before .before .before .before .before .before .before .before .before .before .before .before .before .before .before .before .before .args .nodes .now) (c .before .before .before .before .before .before .before .before .before .before .before .before .before .before .before .before .before .args .link)) (c .before .before .before .before .before .before .before .before .before .before .before .before .put-own .result + c .before .before .before .before .before .before .before .put-kits .result + c .before .before .put-kits2 .result)
-    third = going-last (second (c .before .before .before .before .before)) (c .before .before .put-kits2 .last .0) (c .before .before .put-kits2 .result) behind-down
+    third :
+        let at-put-kits2 : lts.After-put-kits2 (R t) (At t) own.Post = search in
+        let at-put-kits : lts.After-put-kits (R t) (At t) own.Post = search in
+        let at-put-own : lts.After-put-own (R t) (At t) own.Post = search in
+        let start : lts.Start (R t) (At t) own.Post = search in
+        SetDown (start .args .out .now)
+        (back (back (at-put-own .put-own .last .0) (at-put-own .put-own .result) (at-put-kits .put-kits .last .0))
+        (at-put-own .put-own .result + at-put-kits .put-kits .result) (at-put-kits2 .put-kits2 .last .0))
+        (recordsFrom (start .args .nodes .now) (start .args .link))
+        (at-put-own .put-own .result + at-put-kits .put-kits .result + at-put-kits2 .put-kits2 .result)
+    third =
+        let at-put-kits2 : lts.After-put-kits2 (R t) (At t) own.Post = search in
+        let at-slice-known3 : lts.After-slice-known3 (R t) (At t) own.Post = search in
+        going-last (second at-slice-known3) (at-put-kits2 .put-kits2 .last .0) (at-put-kits2 .put-kits2 .result) behind-down
 
   returns : lts.Need-returns (R t) (At t) own.Post
-  returns c = down-same (down-none (c .before .before .before .args .out .now)) (sym (ap (recordsFrom (c .before .before .before .args .nodes .now)) (c .if1 .taken) ∙ from-none (c .before .before .before .args .nodes .now) (c .before .before .before .pre .1 .0)))
+  returns c =
+      let start : lts.Start (R t) (At t) own.Post = search in
+      down-same (down-none (start .args .out .now))
+      (sym (ap (recordsFrom (start .args .nodes .now)) (c .if1 .taken) ∙ from-none (start .args .nodes .now) (start .pre .1 .0)))
 
   put-own-requires : lts.Need-put-own-requires (R t) (At t) own.Post
-  put-own-requires c κs = (c .before .before .before .before .pre .1 .0, (used (c .before) .inside, first-room (c .before .before .before .before .args .out .now) (ownRecord (c .before .before .before .before .args .nodes .now) (c .before .before .before .before .args .link)) (recordsFrom (c .before .before .before .before .args .nodes .now) (child (c .before .before .before .before .args .nodes .now) (c .before .before .before .before .args .link)) ++ recordsFrom (c .before .before .before .before .args .nodes .now) (next (c .before .before .before .before .args .nodes .now) (c .before .before .before .before .args .link))) (recordsFrom (c .before .before .before .before .args .nodes .now) (c .before .before .before .before .args .link)) (from-some (c .before .before .before .before .args .nodes .now) (c .before .before .before .before .pre .1 .0) (c .before .before .before .before .args .link) (used (c .before))) (c .before .before .before .before .pre .1 .1 .1)))
+  put-own-requires c κs =
+      let start : lts.Start (R t) (At t) own.Post = search in (
+        start .pre .1 .0,
+        (
+          used (c .before) .inside,
+          first-room (start .args .out .now) (ownRecord (start .args .nodes .now) (start .args .link))
+              (recordsFrom (start .args .nodes .now) (child (start .args .nodes .now) (start .args .link)) ++ recordsFrom
+              (start .args .nodes .now) (next (start .args .nodes .now) (start .args .link)))
+              (recordsFrom (start .args .nodes .now) (start .args .link))
+              (from-some (start .args .nodes .now) (start .pre .1 .0) (start .args .link) (used (c .before))) (start .pre .1 .1 .1),
+        ),
+      )
 
   sub-put-kits : lts.Need-sub-put-kits (R t) (At t) own.Post
   sub-put-kits c = omega (arith, going-inside (below c) (behind c) (first c))
@@ -93,16 +168,39 @@ module _ (t : ℕ) where
   part-put-kits-end c = omega arith
 
   child-at-requires : lts.Need-child-at-requires (R t) (At t) own.Post
-  child-at-requires c κs = used (c .before .before .before .before .before) .inside
+  child-at-requires c κs =
+      let else1 : lts.Else1 (R t) (At t) own.Post = search in
+      used else1 .inside
 
   put-kits-requires : lts.Need-put-kits-requires (R t) (At t) own.Post
-  put-kits-requires c κs = let u = used (c .before .before .before .before .before .before) in
-      let S = c .before .before .before .before .before .before .before .before .before .pre .1 .0 in
-      let e = c .child-at .ensures .0 in
-      (omega (arith, c .before .before .before .before .before .before .before .before .before .pre .0, child-less S (c .before .before .before .before .before .before .before .before .before .args .link) u, ap (rank (c .before .before .before .before .before .before .before .before .before .args .nodes .now)) e), (S, (rw e (child-live S (c .before .before .before .before .before .before .before .before .before .args .link) (u .inside)), rw e (going-room (below (c .before .before)) (behind (c .before .before)) (first (c .before .before))))))
+  put-kits-requires c κs =
+      let at-slice-known2 : lts.After-slice-known2 (R t) (At t) own.Post = search in
+      let else1 : lts.Else1 (R t) (At t) own.Post = search in
+      let start : lts.Start (R t) (At t) own.Post = search in
+      let u = used else1 in
+      let S = start .pre .1 .0 in
+      let e = c .child-at .ensures .0 in (
+        omega (arith, start .pre .0, child-less S (start .args .link) u, ap (rank (start .args .nodes .now)) e),
+        (
+          S,
+          (
+            rw e (child-live S (start .args .link) (u .inside)),
+            rw e
+                (going-room (below at-slice-known2) (behind at-slice-known2) (first at-slice-known2)),
+          ),
+        ),
+      )
 
   add-below : lts.Need-add-below (R t) (At t) own.Post
-  add-below c = omega (arith, going-inside (below (c .before .before .before .before .before)) (behind (c .before .before .before .before .before)) (first (c .before .before .before .before .before)), first (c .before .before .before .before .before) .size, below-ends c)
+  add-below c =
+      let at-slice-known2 : lts.After-slice-known2 (R t) (At t) own.Post = search in
+      omega (
+        arith,
+        going-inside (below at-slice-known2) (behind at-slice-known2) (first at-slice-known2),
+        first
+            at-slice-known2 .size,
+        below-ends c,
+      )
 
   sub-put-kits-2 : lts.Need-sub-put-kits-2 (R t) (At t) own.Post
   sub-put-kits-2 c = omega (arith, last-inside (second c))
@@ -114,19 +212,30 @@ module _ (t : ℕ) where
   part-put-kits-end-2 c = omega arith
 
   next-at-requires : lts.Need-next-at-requires (R t) (At t) own.Post
-  next-at-requires c κs = used (c .before .before .before .before .before .before .before .before .before .before) .inside
+  next-at-requires c κs =
+      let else1 : lts.Else1 (R t) (At t) own.Post = search in
+      used else1 .inside
 
   put-kits-requires-2 : lts.Need-put-kits-requires-2 (R t) (At t) own.Post
-  put-kits-requires-2 c κs = let u = used (c .before .before .before .before .before .before .before .before .before .before .before) in
-      let S = c .before .before .before .before .before .before .before .before .before .before .before .before .before .before .pre .1 .0 in
-      let e = c .next-at .ensures .0 in
-      (omega (arith, c .before .before .before .before .before .before .before .before .before .before .before .before .before .before .pre .0, next-less S (c .before .before .before .before .before .before .before .before .before .before .before .before .before .before .args .link) u, ap (rank (c .before .before .before .before .before .before .before .before .before .before .before .before .before .before .args .nodes .now)) e), (S, (rw e (S .good (c .before .before .before .before .before .before .before .before .before .before .before .before .before .before .args .link) u .sibling), rw e (last-room (second (c .before .before))))))
+  put-kits-requires-2 c κs =
+      let else1 : lts.Else1 (R t) (At t) own.Post = search in
+      let start : lts.Start (R t) (At t) own.Post = search in
+      let u = used else1 in
+      let S = start .pre .1 .0 in
+      let e = c .next-at .ensures .0 in (
+        omega (arith, start .pre .0, next-less S (start .args .link) u, ap (rank (start .args .nodes .now)) e),
+        (S, (rw e (S .good (start .args .link) u .sibling), rw e (last-room (second (c .before .before))))),
+      )
 
   add-result : lts.Need-add-result (R t) (At t) own.Post
-  add-result c = omega (arith, last-inside (second (c .before .before .before .before .before)), second (c .before .before .before .before .before) .size, behind-ends c)
+  add-result c =
+      let at-slice-known3 : lts.After-slice-known3 (R t) (At t) own.Post = search in
+      omega (arith, last-inside (second at-slice-known3), second at-slice-known3 .size, behind-ends c)
 
   same-length : lts.Need-same-length (R t) (At t) own.Post
-  same-length c = down-size (third c) (c .before .before .before .before .before .before .before .before .before .before .before .before .before .before .before .before .before .pre .1 .1 .1)
+  same-length c =
+      let start : lts.Start (R t) (At t) own.Post = search in
+      down-size (third c) (start .pre .1 .1 .1)
 
   returns-2 : lts.Need-returns-2 (R t) (At t) own.Post
   returns-2 c = third c

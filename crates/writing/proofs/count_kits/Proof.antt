@@ -11,7 +11,9 @@ use Rattle.writing.proofs.count_kits.Statement.{statement}
 use Rattle.writing.proofs.count_kits.Tie as tie
 
 abbrev Inv-loop : tie.InvT-loop
-Inv-loop nodes n count₀ i₀ count i = (n ≡ size nodes) × (n ≤ 4096) × (i ≤ n) × (count + length (kitsAt nodes (from i (n - i))) ≡ length (kitsAt nodes (nodesOf nodes))) × (count ≤ i)
+Inv-loop nodes n count₀ i₀ count i =
+    (n ≡ size nodes) × (n ≤ 4096) × (i ≤ n)
+    × (count + length (kitsAt nodes (from i (n - i))) ≡ length (kitsAt nodes (nodesOf nodes))) × (count ≤ i)
 
 abbrev μ-loop : tie.MeasureT-loop
 μ-loop nodes n count₀ i₀ count i = n - i
@@ -20,7 +22,19 @@ node-count-requires : tie.Need-node-count-requires Inv-loop μ-loop
 node-count-requires c κs = tt
 
 loop-holds : tie.Need-loop-holds Inv-loop μ-loop
-loop-holds c = (c .node-count .ensures, omega (arith, c .node-count .ensures, c .before .before .pre .sized .most), omega arith, omega (arith, ap length (ap (kitsAt (c .before .before .args .nodes .now)) (from-root (c .before .before .args .nodes .now) (c .node-count .result) (c .node-count .ensures)))), omega arith)
+loop-holds c =
+    let start : tie.Start Inv-loop μ-loop = search in (
+      c .node-count .ensures,
+      omega (arith, c .node-count .ensures, start .pre .sized .most),
+      omega arith,
+      omega (
+        arith,
+        ap length
+            (ap (kitsAt (start .args .nodes .now))
+            (from-root (start .args .nodes .now) (c .node-count .result) (c .node-count .ensures))),
+      ),
+      omega arith,
+    )
 
 tag-at-requires : tie.Need-tag-at-requires Inv-loop μ-loop
 tag-at-requires c κs = omega arith
@@ -35,16 +49,44 @@ loop-less : tie.Need-loop-less Inv-loop μ-loop
 loop-less c = omega arith
 
 loop-again : tie.Need-loop-again Inv-loop μ-loop
-loop-again c = (c .before .before .before .loop .inv .0, omega arith, omega arith, omega (arith, kits-yes (c .before .before .before .before .before .before .args .nodes .now) (c .before .before .before .before .node-count .result) (c .before .before .before .loop .i) (omega arith) (λ e. c .if1 .taken (c .before .tag-at .ensures ∙ e))), omega arith)
+loop-again c =
+    let at-loop : tie.At-loop Inv-loop μ-loop = search in
+    let at-node-count : tie.After-node-count Inv-loop μ-loop = search in
+    let start : tie.Start Inv-loop μ-loop = search in (
+      at-loop .loop .inv .0,
+      omega arith,
+      omega arith,
+      omega (
+        arith,
+        kits-yes (start .args .nodes .now) (at-node-count .node-count .result) (at-loop .loop .i) (omega arith)
+            (λ e. c .if1 .taken (c .before .tag-at .ensures ∙ e)),
+      ),
+      omega arith,
+    )
 
 loop-less-2 : tie.Need-loop-less-2 Inv-loop μ-loop
 loop-less-2 c = omega arith
 
 loop-again-2 : tie.Need-loop-again-2 Inv-loop μ-loop
-loop-again-2 c = (c .before .before .before .loop .inv .0, omega arith, omega arith, omega (arith, kits-no (c .before .before .before .before .before .before .args .nodes .now) (c .before .before .before .before .node-count .result) (c .before .before .before .loop .i) (omega arith) (sym (c .before .tag-at .ensures) ∙ c .if1 .left)), omega arith)
+loop-again-2 c =
+    let at-loop : tie.At-loop Inv-loop μ-loop = search in
+    let at-node-count : tie.After-node-count Inv-loop μ-loop = search in
+    let start : tie.Start Inv-loop μ-loop = search in (
+      at-loop .loop .inv .0,
+      omega arith,
+      omega arith,
+      omega (
+        arith,
+        kits-no (start .args .nodes .now) (at-node-count .node-count .result) (at-loop .loop .i) (omega arith)
+            (sym (c .before .tag-at .ensures) ∙ c .if1 .left),
+      ),
+      omega arith,
+    )
 
 returns : tie.Need-returns Inv-loop μ-loop
-returns c = omega (arith, kits-end (c .before .before .before .before .args .nodes .now) (c .before .before .node-count .result) (c .before .loop .i) (omega arith))
+returns c =
+    let start : tie.Start Inv-loop μ-loop = search in
+    omega (arith, kits-end (start .args .nodes .now) (c .before .before .node-count .result) (c .before .loop .i) (omega arith))
 
 pub count-kits-spec : {M : Type 1} → statement M
 count-kits-spec =

@@ -33,14 +33,16 @@ part-result-end : tie.Need-part-result-end
 part-result-end c = search needs
 
 returns : tie.Need-returns
-returns c = let R = c .before .before .before .before .args .reg .now in
-    let k = c .before .before .before .before .args .k in
+returns c =
+    let start : tie.Start = search in
+    let R = start .args .reg .now in
+    let k = start .args .k in
     let n = c .before .wide8 .result in
     let a = k * 32 + 1 in
     let e : a + n - a ≡ n = omega arith in
     let w : n ≡ getD R (k * 32) 0 = c .before .wide8 .ensures .0 in
-    let g : take (a + n - a) (drop a R) ≡ numberAt R k = rw (e, w) (sym (number-read R k (c .before .before .before .before .pre .1))) in
-    (g, rw e (omega (arith, length-take n (drop a R), c .before .before .before .before .pre .1)))
+    let g : take (a + n - a) (drop a R) ≡ numberAt R k = rw (e, w) (sym (number-read R k (start .pre .1))) in
+    (g, rw e (omega (arith, length-take n (drop a R), start .pre .1)))
 
 pub number-in-spec : {M : Type 1} → statement M
 number-in-spec =

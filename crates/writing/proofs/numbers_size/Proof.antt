@@ -11,7 +11,8 @@ use Rattle.writing.proofs.numbers_size.Statement.{statement}
 use Rattle.writing.proofs.numbers_size.Tie as tie
 
 abbrev Inv-loop : tie.InvT-loop
-Inv-loop reg n total₀ k₀ total k = (k ≤ n) × (n ≤ 255) × (total + length (numbersFrom reg k (n - k)) ≡ length (numbersFrom reg 0 n)) × (total ≤ 25 * k)
+Inv-loop reg n total₀ k₀ total k =
+    (k ≤ n) × (n ≤ 255) × (total + length (numbersFrom reg k (n - k)) ≡ length (numbersFrom reg 0 n)) × (total ≤ 25 * k)
 
 abbrev μ-loop : tie.MeasureT-loop
 μ-loop reg n total₀ k₀ total k = n - k
@@ -20,7 +21,9 @@ loop-holds : tie.Need-loop-holds Inv-loop μ-loop
 loop-holds c = (omega arith, c .before .pre .1, rw sub-zero (omega arith), omega arith)
 
 number-in-requires : tie.Need-number-in-requires Inv-loop μ-loop
-number-in-requires c κs = (omega (arith, c .before .before .before .pre .0 .inside), c .before .before .before .pre .0 .short (c .before .loop .k) (omega arith))
+number-in-requires c κs =
+    let start : tie.Start Inv-loop μ-loop = search in
+    (omega (arith, start .pre .0 .inside), start .pre .0 .short (c .before .loop .k) (omega arith))
 
 add-total : tie.Need-add-total Inv-loop μ-loop
 add-total c = omega (arith, c .number-in .ensures .1)
@@ -35,9 +38,11 @@ loop-less : tie.Need-loop-less Inv-loop μ-loop
 loop-less c = omega arith
 
 loop-again : tie.Need-loop-again Inv-loop μ-loop
-loop-again c = let R = c .before .before .before .before .args .reg .now in
+loop-again c =
+    let start : tie.Start Inv-loop μ-loop = search in
+    let R = start .args .reg .now in
     let k = c .before .before .loop .k in
-    let n = c .before .before .before .before .args .n in
+    let n = start .args .n in
     let s = ap length (numbers-step R n k (omega arith)) in
     let a = length-append (numberItem (numberAt R k)) (numbersFrom R (k + 1) (n - (k + 1))) in
     let z = number-size (numberAt R k) in
@@ -45,7 +50,12 @@ loop-again c = let R = c .before .before .before .before .args .reg .now in
     (omega arith, omega arith, omega arith, omega (arith, c .number-in .ensures .1))
 
 returns : tie.Need-returns Inv-loop μ-loop
-returns c = (omega (arith, ap length (numbers-end (c .before .before .before .args .reg .now) (c .before .before .before .args .n) (c .before .loop .k) (omega arith))), omega arith)
+returns c =
+    let start : tie.Start Inv-loop μ-loop = search in (
+      omega (arith, ap length (numbers-end (start .args .reg .now) (start .args .n) (c .before .loop .k) (omega arith))),
+      omega
+          arith,
+    )
 
 pub numbers-size-spec : {M : Type 1} → statement M
 numbers-size-spec =

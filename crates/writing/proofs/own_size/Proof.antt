@@ -11,20 +11,38 @@ use Rattle.writing.proofs.Records.{own-none, own-length}
 use Rattle.writing.proofs.own_size.Statement.{statement}
 use Rattle.writing.proofs.own_size.Tie as tie
 
-live : (c : tie.Else1) → Live (c .before .before .before .args .nodes .now) (c .before .before .before .args .i)
-live c = tagged-live (c .before .before .before .pre .0) (c .before .before .before .args .i) (c .before .before .before .pre .1) (omega (arith, c .before .tag-at .ensures, c .if1 .left))
+live : (c : tie.Else1) →
+    let start : tie.Start = search in
+    Live (start .args .nodes .now) (start .args .i)
+live c =
+    let start : tie.Start = search in
+    tagged-live (start .pre .0) (start .args .i) (start .pre .1) (omega (arith, c .before .tag-at .ensures, c .if1 .left))
 
-size : (c : tie.After-line-count) → (length (ownRecord (c .before .before .before .before .before .args .nodes .now) (c .before .before .before .before .before .args .i)) ≡ 3 + length (listOf (unitsIn (c .before .row-at .result))) / 2 * 2) × (length (listOf (unitsIn (c .before .row-at .result))) / 2 ≤ 64)
-size c = own-length (c .before .before .before .before .before .args .nodes .now) (c .before .before .before .before .before .pre .0) (c .before .before .before .before .before .args .i) (live (c .before .before)) (c .before .row-at .result) (c .before .before .before .tag-at .result) (c .before .before .before .tag-at .ensures) (c .before .before .if1 .left) (c .before .row-at .ensures .0)
+size : (c : tie.After-line-count) →
+    let start : tie.Start = search in
+    (length (ownRecord (start .args .nodes .now) (start .args .i)) ≡ 3 + length (listOf (unitsIn (c .before .row-at .result))) /
+    2 * 2) × (length (listOf (unitsIn (c .before .row-at .result))) / 2 ≤ 64)
+size c =
+    let else1 : tie.Else1 = search in
+    let at-tag-at : tie.After-tag-at = search in
+    let start : tie.Start = search in
+    own-length (start .args .nodes .now) (start .pre .0) (start .args .i) (live else1) (c .before .row-at .result)
+    (at-tag-at .tag-at .result) (at-tag-at .tag-at .ensures) (else1 .if1 .left) (c .before .row-at .ensures .0)
 
 tag-at-requires : tie.Need-tag-at-requires
 tag-at-requires c κs = c .before .pre .1
 
 returns : tie.Need-returns
-returns c = (sym (ap length (own-none (c .before .before .before .args .nodes .now) (c .before .before .before .args .i) (sym (c .before .tag-at .ensures) ∙ c .if1 .taken))), omega arith)
+returns c =
+    let start : tie.Start = search in (
+      sym (ap length (own-none (start .args .nodes .now) (start .args .i) (sym (c .before .tag-at .ensures) ∙ c .if1 .taken))),
+      omega arith,
+    )
 
 row-at-requires : tie.Need-row-at-requires
-row-at-requires c κs = (c .before .before .before .pre .0, live c)
+row-at-requires c κs =
+    let start : tie.Start = search in
+    (start .pre .0, live c)
 
 line-count-requires : tie.Need-line-count-requires
 line-count-requires c κs = rw (c .row-at .ensures .0) (c .row-at .ensures .1)

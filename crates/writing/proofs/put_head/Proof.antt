@@ -13,31 +13,56 @@ use borrow.Author.Needs.{needs}
 use Rattle.writing.proofs.put_head.Statement.{statement}
 use Rattle.writing.proofs.put_head.Tie as tie
 
-first : (c : tie.After-slice-known2) → Going (c .before .before .before .before .before .before .args .out .now) (c .before .before .copy-in .last .0) 3 (two version ++ two (c .before .before .before .before .before .before .args .parts)) (headItems (c .before .before .before .before .before .before .args .parts))
+first : (c : tie.After-slice-known2) →
+    let start : tie.Start = search in
+    Going (start .args .out .now) (c .before .before .copy-in .last .0) 3 (two version ++ two (start .args .parts))
+    (headItems (start .args .parts))
 unfolding headItems
-first c = going-of (two version ++ two (c .before .before .before .before .before .before .args .parts)) (record { ends = refl; is = c .before .before .copy-in .ensures }) refl (c .before .before .before .before .before .before .pre)
+first c =
+    let start : tie.Start = search in
+    going-of (two version ++ two (start .args .parts)) (record { ends = refl; is = c .before .before .copy-in .ensures }) refl
+    (start .pre)
 
-second : (c : tie.After-slice-known3) → Going (c .before .before .before .before .before .before .before .before .before .before .args .out .now) (putMid 3 (length (c .before .before .before .before .before .before .copy-in .last .0) - 3) (c .before .before .before .before .before .before .copy-in .last .0) (c .before .before .put-two .last .0)) (3 + c .before .before .put-two .result) (two (c .before .before .before .before .before .before .before .before .before .before .args .parts)) (headItems (c .before .before .before .before .before .before .before .before .before .before .args .parts))
-second c = going-on (two version) (two (c .before .before .before .before .before .before .before .before .before .before .args .parts)) (first (c .before .before .before .before)) (c .before .before .put-two .last .0) (c .before .before .put-two .result) (c .before .before .put-two .ensures)
+second : (c : tie.After-slice-known3) →
+    let at-put-two : tie.After-put-two = search in
+    let at-copy-in : tie.After-copy-in = search in
+    let start : tie.Start = search in
+    Going (start .args .out .now)
+    (putMid 3 (length (at-copy-in .copy-in .last .0) - 3) (at-copy-in .copy-in .last .0) (at-put-two .put-two .last .0))
+    (3 + at-put-two .put-two .result) (two (start .args .parts)) (headItems (start .args .parts))
+second c =
+    let at-put-two : tie.After-put-two = search in
+    let at-slice-known2 : tie.After-slice-known2 = search in
+    let start : tie.Start = search in
+    going-on (two version) (two (start .args .parts)) (first at-slice-known2) (at-put-two .put-two .last .0)
+    (at-put-two .put-two .result) (at-put-two .put-two .ensures)
 
 slice-aggregate-copy-in : tie.Need-slice-aggregate-copy-in
 slice-aggregate-copy-in c = search needs
 
 copy-in-requires : tie.Need-copy-in-requires
 unfolding headItems inBytes
-copy-in-requires c κs = omega (arith, c .before .before .before .pre)
+copy-in-requires c κs =
+    let start : tie.Start = search in
+    omega (arith, start .pre)
 
 sub-put-two : tie.Need-sub-put-two
-sub-put-two c = omega (arith, going-inside (two version) (two (c .before .before .before .before .before .before .args .parts)) (first c))
+sub-put-two c =
+    let start : tie.Start = search in
+    omega (arith, going-inside (two version) (two (start .args .parts)) (first c))
 
 part-put-two-start : tie.Need-part-put-two-start
-part-put-two-start c = omega (arith, going-inside (two version) (two (c .before .before .before .before .before .before .args .parts)) (first c))
+part-put-two-start c =
+    let start : tie.Start = search in
+    omega (arith, going-inside (two version) (two (start .args .parts)) (first c))
 
 part-put-two-end : tie.Need-part-put-two-end
 part-put-two-end c = search needs
 
 put-two-requires : tie.Need-put-two-requires
-put-two-requires c κs = omega (arith, two-length version, going-room (two version) (two (c .before .before .before .before .before .before .before .args .parts)) (first (c .before)))
+put-two-requires c κs =
+    let start : tie.Start = search in
+    omega (arith, two-length version, going-room (two version) (two (start .args .parts)) (first (c .before)))
 
 add-at : tie.Need-add-at
 add-at c = omega (arith, two-length version, c .before .before .put-two .ensures .ends)
@@ -52,16 +77,36 @@ part-put-two-end-2 : tie.Need-part-put-two-end-2
 part-put-two-end-2 c = search needs
 
 put-two-requires-2 : tie.Need-put-two-requires-2
-put-two-requires-2 c κs = omega (arith, two-length (c .before .before .before .before .before .before .before .before .before .before .before .args .parts), last-room (second (c .before)))
+put-two-requires-2 c κs =
+    let start : tie.Start = search in
+    omega (arith, two-length (start .args .parts), last-room (second (c .before)))
 
 add-result : tie.Need-add-result
-add-result c = omega (arith, two-length version, two-length (c .before .before .before .before .before .before .before .before .before .before .before .before .before .before .args .parts), c .before .before .put-two2 .ensures .ends, c .before .before .before .before .before .before .put-two .ensures .ends)
+add-result c =
+    let at-put-two : tie.After-put-two = search in
+    let start : tie.Start = search in
+    omega (
+      arith,
+      two-length version,
+      two-length (start .args .parts),
+      c .before .before .put-two2 .ensures .ends,
+      at-put-two .put-two .ensures .ends,
+    )
 
 same-length : tie.Need-same-length
-same-length c = down-size (going-last (second (c .before .before .before .before)) (c .before .before .put-two2 .last .0) (c .before .before .put-two2 .result) (c .before .before .put-two2 .ensures)) (c .before .before .before .before .before .before .before .before .before .before .before .before .before .before .pre)
+same-length c =
+    let at-put-two2 : tie.After-put-two2 = search in
+    let at-slice-known3 : tie.After-slice-known3 = search in
+    let start : tie.Start = search in
+    down-size (going-last (second at-slice-known3) (at-put-two2 .put-two2 .last .0) (at-put-two2 .put-two2 .result)
+    (at-put-two2 .put-two2 .ensures)) (start .pre)
 
 returns : tie.Need-returns
-returns c = going-last (second (c .before .before .before .before)) (c .before .before .put-two2 .last .0) (c .before .before .put-two2 .result) (c .before .before .put-two2 .ensures)
+returns c =
+    let at-put-two2 : tie.After-put-two2 = search in
+    let at-slice-known3 : tie.After-slice-known3 = search in
+    going-last (second at-slice-known3) (at-put-two2 .put-two2 .last .0) (at-put-two2 .put-two2 .result)
+    (at-put-two2 .put-two2 .ensures)
 
 pub put-head-spec : {M : Type 1} → statement M
 put-head-spec =

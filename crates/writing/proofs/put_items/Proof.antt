@@ -25,31 +25,98 @@ module _ (c : tie.Start) where
   records = recordsAt (c .args .nodes .now) (walkAll (c .args .nodes .now))
 
   items : encode (contentsOf (c .args .reg .now) (c .args .nodes .now)) ≡ headItems (c .args .sheet .parts) ++ (numbers ++ (count ++ records))
-  items = sheet-items (c .args .reg .now) (c .args .nodes .now) (c .pre .0) (c .args .sheet .parts) (c .args .sheet .kits) (c .pre .1 .1 .0 .parts) (c .pre .1 .1 .0 .kits) (c .pre .1 .0 .shape)
+  items =
+      sheet-items (c .args .reg .now) (c .args .nodes .now) (c .pre .0) (c .args .sheet .parts) (c .args .sheet .kits)
+      (c .pre .1 .1 .0 .parts) (c .pre .1 .1 .0 .kits) (c .pre .1 .0 .shape)
 
-first : (c : tie.After-slice-known2) → Going (c .before .before .before .before .before .before .before .args .out .now) (c .before .before .put-head .last .0) (c .before .before .put-head .result) (numbers (c .before .before .before .before .before .before .before) ++ (count (c .before .before .before .before .before .before .before) ++ records (c .before .before .before .before .before .before .before))) (encode (contentsOf (c .before .before .before .before .before .before .before .args .reg .now) (c .before .before .before .before .before .before .before .args .nodes .now)))
-first c = going-of (numbers (c .before .before .before .before .before .before .before) ++ (count (c .before .before .before .before .before .before .before) ++ records (c .before .before .before .before .before .before .before))) (c .before .before .put-head .ensures) (items (c .before .before .before .before .before .before .before)) (c .before .before .before .before .before .before .before .pre .1 .1 .1)
+first : (c : tie.After-slice-known2) →
+    let at-put-head : tie.After-put-head = search in
+    let start : tie.Start = search in
+    Going (start .args .out .now) (at-put-head .put-head .last .0) (at-put-head .put-head .result)
+    (numbers start ++ (count start ++ records start)) (encode (contentsOf (start .args .reg .now) (start .args .nodes .now)))
+first c =
+    let start : tie.Start = search in
+    going-of (numbers start ++ (count start ++ records start)) (c .before .before .put-head .ensures) (items start)
+    (start .pre .1 .1 .1)
 
-numbers-down : (c : tie.After-slice-known3) → SetDown (rest-of (c .before .before .before .before .before .before .before .put-head .last .0) (c .before .before .before .before .before .before .before .put-head .result)) (c .before .before .put-numbers .last .0) (numbers (c .before .before .before .before .before .before .before .before .before .before .before .before)) (c .before .before .put-numbers .result)
-numbers-down c = down-same (c .before .before .put-numbers .ensures) (ap (numbersFrom (c .before .before .before .before .before .before .before .before .before .before .before .before .args .reg .now) 0) (c .before .before .before .wide16 .ensures .0))
+numbers-down : (c : tie.After-slice-known3) →
+    let at-put-numbers : tie.After-put-numbers = search in
+    let at-put-head : tie.After-put-head = search in
+    let start : tie.Start = search in
+    SetDown (rest-of (at-put-head .put-head .last .0) (at-put-head .put-head .result)) (at-put-numbers .put-numbers .last .0)
+    (numbers start) (at-put-numbers .put-numbers .result)
+numbers-down c =
+    let at-wide16 : tie.After-wide16 = search in
+    let start : tie.Start = search in
+    down-same (c .before .before .put-numbers .ensures)
+    (ap (numbersFrom (start .args .reg .now) 0) (at-wide16 .wide16 .ensures .0))
 
-second : (c : tie.After-slice-known3) → Going (c .before .before .before .before .before .before .before .before .before .before .before .before .args .out .now) (back (c .before .before .before .before .before .before .before .put-head .last .0) (c .before .before .before .before .before .before .before .put-head .result) (c .before .before .put-numbers .last .0)) (c .before .before .before .before .before .before .before .put-head .result + c .before .before .put-numbers .result) (count (c .before .before .before .before .before .before .before .before .before .before .before .before) ++ records (c .before .before .before .before .before .before .before .before .before .before .before .before)) (encode (contentsOf (c .before .before .before .before .before .before .before .before .before .before .before .before .args .reg .now) (c .before .before .before .before .before .before .before .before .before .before .before .before .args .nodes .now)))
-second c = going-on (numbers (c .before .before .before .before .before .before .before .before .before .before .before .before)) (count (c .before .before .before .before .before .before .before .before .before .before .before .before) ++ records (c .before .before .before .before .before .before .before .before .before .before .before .before)) (first (c .before .before .before .before .before)) (c .before .before .put-numbers .last .0) (c .before .before .put-numbers .result) (numbers-down c)
+second : (c : tie.After-slice-known3) →
+    let at-put-numbers : tie.After-put-numbers = search in
+    let at-put-head : tie.After-put-head = search in
+    let start : tie.Start = search in
+    Going (start .args .out .now)
+    (back (at-put-head .put-head .last .0) (at-put-head .put-head .result) (at-put-numbers .put-numbers .last .0))
+    (at-put-head .put-head .result + at-put-numbers .put-numbers .result) (count start ++ records start)
+    (encode (contentsOf (start .args .reg .now) (start .args .nodes .now)))
+second c =
+    let at-put-numbers : tie.After-put-numbers = search in
+    let at-slice-known2 : tie.After-slice-known2 = search in
+    let start : tie.Start = search in
+    going-on (numbers start) (count start ++ records start) (first at-slice-known2) (at-put-numbers .put-numbers .last .0)
+    (at-put-numbers .put-numbers .result) (numbers-down c)
 
-third : (c : tie.After-slice-known4) → Going (c .before .before .before .before .before .before .before .before .before .before .before .before .before .before .before .before .args .out .now) (back (back (c .before .before .before .before .before .before .before .before .before .before .before .put-head .last .0) (c .before .before .before .before .before .before .before .before .before .before .before .put-head .result) (c .before .before .before .before .before .before .put-numbers .last .0)) (c .before .before .before .before .before .before .before .before .before .before .before .put-head .result + c .before .before .before .before .before .before .put-numbers .result) (c .before .before .put-two .last .0)) (c .before .before .before .before .before .before .before .before .before .before .before .put-head .result + c .before .before .before .before .before .before .put-numbers .result + c .before .before .put-two .result) (records (c .before .before .before .before .before .before .before .before .before .before .before .before .before .before .before .before)) (encode (contentsOf (c .before .before .before .before .before .before .before .before .before .before .before .before .before .before .before .before .args .reg .now) (c .before .before .before .before .before .before .before .before .before .before .before .before .before .before .before .before .args .nodes .now)))
-third c = going-on (count (c .before .before .before .before .before .before .before .before .before .before .before .before .before .before .before .before)) (records (c .before .before .before .before .before .before .before .before .before .before .before .before .before .before .before .before)) (second (c .before .before .before .before)) (c .before .before .put-two .last .0) (c .before .before .put-two .result) (c .before .before .put-two .ensures)
+third : (c : tie.After-slice-known4) →
+    let at-put-two : tie.After-put-two = search in
+    let at-put-numbers : tie.After-put-numbers = search in
+    let at-put-head : tie.After-put-head = search in
+    let start : tie.Start = search in
+    Going (start .args .out .now)
+    (back (back (at-put-head .put-head .last .0) (at-put-head .put-head .result) (at-put-numbers .put-numbers .last .0))
+    (at-put-head .put-head .result + at-put-numbers .put-numbers .result) (at-put-two .put-two .last .0))
+    (at-put-head .put-head .result + at-put-numbers .put-numbers .result + at-put-two .put-two .result) (records start)
+    (encode (contentsOf (start .args .reg .now) (start .args .nodes .now)))
+third c =
+    let at-put-two : tie.After-put-two = search in
+    let at-slice-known3 : tie.After-slice-known3 = search in
+    let start : tie.Start = search in
+    going-on (count start) (records start) (second at-slice-known3) (at-put-two .put-two .last .0) (at-put-two .put-two .result)
+    (at-put-two .put-two .ensures)
 
-all : (c : tie.After-slice-known5) → SetDown (c .before .before .before .before .before .before .before .before .before .before .before .before .before .before .before .before .before .before .before .before .args .out .now) (back (back (back (c .before .before .before .before .before .before .before .before .before .before .before .before .before .before .before .put-head .last .0) (c .before .before .before .before .before .before .before .before .before .before .before .before .before .before .before .put-head .result) (c .before .before .before .before .before .before .before .before .before .before .put-numbers .last .0)) (c .before .before .before .before .before .before .before .before .before .before .before .before .before .before .before .put-head .result + c .before .before .before .before .before .before .before .before .before .before .put-numbers .result) (c .before .before .before .before .before .before .put-two .last .0)) (c .before .before .before .before .before .before .before .before .before .before .before .before .before .before .before .put-head .result + c .before .before .before .before .before .before .before .before .before .before .put-numbers .result + c .before .before .before .before .before .before .put-two .result) (c .before .before .put-records .last .0)) (encode (contentsOf (c .before .before .before .before .before .before .before .before .before .before .before .before .before .before .before .before .before .before .before .before .args .reg .now) (c .before .before .before .before .before .before .before .before .before .before .before .before .before .before .before .before .before .before .before .before .args .nodes .now))) (c .before .before .before .before .before .before .before .before .before .before .before .before .before .before .before .put-head .result + c .before .before .before .before .before .before .before .before .before .before .put-numbers .result + c .before .before .before .before .before .before .put-two .result + c .before .before .put-records .result)
-all c = going-last (third (c .before .before .before .before)) (c .before .before .put-records .last .0) (c .before .before .put-records .result) (c .before .before .put-records .ensures)
+all : (c : tie.After-slice-known5) →
+    let at-put-records : tie.After-put-records = search in
+    let at-put-two : tie.After-put-two = search in
+    let at-put-numbers : tie.After-put-numbers = search in
+    let at-put-head : tie.After-put-head = search in
+    let start : tie.Start = search in
+    SetDown (start .args .out .now)
+    (back (back (back (at-put-head .put-head .last .0) (at-put-head .put-head .result) (at-put-numbers .put-numbers .last .0))
+    (at-put-head .put-head .result + at-put-numbers .put-numbers .result) (at-put-two .put-two .last .0))
+    (at-put-head .put-head .result + at-put-numbers .put-numbers .result + at-put-two .put-two .result)
+    (at-put-records .put-records .last .0)) (encode (contentsOf (start .args .reg .now) (start .args .nodes .now)))
+    (at-put-head .put-head .result + at-put-numbers .put-numbers .result + at-put-two .put-two .result +
+    at-put-records .put-records .result)
+all c =
+    let at-put-records : tie.After-put-records = search in
+    let at-slice-known4 : tie.After-slice-known4 = search in
+    going-last (third at-slice-known4) (at-put-records .put-records .last .0) (at-put-records .put-records .result)
+    (at-put-records .put-records .ensures)
 
 put-head-requires : tie.Need-put-head-requires
-put-head-requires c κs = first-room (c .before .before .before .before .args .out .now) (headItems (c .before .before .before .before .args .sheet .parts)) (numbers (c .before .before .before .before) ++ (count (c .before .before .before .before) ++ records (c .before .before .before .before))) (encode (contentsOf (c .before .before .before .before .args .reg .now) (c .before .before .before .before .args .nodes .now))) (items (c .before .before .before .before)) (c .before .before .before .before .pre .1 .1 .1)
+put-head-requires c κs =
+    let start : tie.Start = search in
+    first-room (start .args .out .now) (headItems (start .args .sheet .parts)) (numbers start ++ (count start ++ records start))
+    (encode (contentsOf (start .args .reg .now) (start .args .nodes .now))) (items start) (start .pre .1 .1 .1)
 
 sub-put-numbers : tie.Need-sub-put-numbers
-sub-put-numbers c = omega (arith, going-inside (numbers (c .before .before .before .before .before .before .before)) (count (c .before .before .before .before .before .before .before) ++ records (c .before .before .before .before .before .before .before)) (first c))
+sub-put-numbers c =
+    let start : tie.Start = search in
+    omega (arith, going-inside (numbers start) (count start ++ records start) (first c))
 
 part-put-numbers-start : tie.Need-part-put-numbers-start
-part-put-numbers-start c = omega (arith, going-inside (numbers (c .before .before .before .before .before .before .before)) (count (c .before .before .before .before .before .before .before) ++ records (c .before .before .before .before .before .before .before)) (first c))
+part-put-numbers-start c =
+    let start : tie.Start = search in
+    omega (arith, going-inside (numbers start) (count start ++ records start) (first c))
 
 part-put-numbers-end : tie.Need-part-put-numbers-end
 part-put-numbers-end c = search needs
@@ -58,25 +125,54 @@ wide16-requires : tie.Need-wide16-requires
 wide16-requires c κs = tt
 
 put-numbers-requires : tie.Need-put-numbers-requires
-put-numbers-requires c κs = let e = c .wide16 .ensures .0 in (rw e (ready-short (c .before .before .before .before .before .before .before .before .before .args .reg .now) (c .before .before .before .before .before .before .before .before .before .pre .0) (c .before .before .before .before .before .before .before .before .before .args .sheet .parts) (c .before .before .before .before .before .before .before .before .before .pre .1 .1 .0 .parts)), rw e (going-room (numbers (c .before .before .before .before .before .before .before .before .before)) (count (c .before .before .before .before .before .before .before .before .before) ++ records (c .before .before .before .before .before .before .before .before .before)) (first (c .before .before))))
+put-numbers-requires c κs =
+    let start : tie.Start = search in
+    let e = c .wide16 .ensures .0 in (
+      rw e (ready-short (start .args .reg .now) (start .pre .0) (start .args .sheet .parts) (start .pre .1 .1 .0 .parts)),
+      rw e
+          (going-room (numbers start) (count start ++ records start) (first (c .before .before))),
+    )
 
 add-count : tie.Need-add-count
-add-count c = omega (arith, going-inside (numbers (c .before .before .before .before .before .before .before .before .before .before .before .before)) (count (c .before .before .before .before .before .before .before .before .before .before .before .before) ++ records (c .before .before .before .before .before .before .before .before .before .before .before .before)) (first (c .before .before .before .before .before)), first (c .before .before .before .before .before) .size, numbers-down c .ends)
+add-count c =
+    let at-slice-known2 : tie.After-slice-known2 = search in
+    let start : tie.Start = search in
+    omega (
+      arith,
+      going-inside (numbers start) (count start ++ records start) (first at-slice-known2),
+      first
+          at-slice-known2 .size,
+      numbers-down c .ends,
+    )
 
 sub-put-two : tie.Need-sub-put-two
-sub-put-two c = omega (arith, going-inside (count (c .before .before .before .before .before .before .before .before .before .before .before .before)) (records (c .before .before .before .before .before .before .before .before .before .before .before .before)) (second c))
+sub-put-two c =
+    let start : tie.Start = search in
+    omega (arith, going-inside (count start) (records start) (second c))
 
 part-put-two-start : tie.Need-part-put-two-start
-part-put-two-start c = omega (arith, going-inside (count (c .before .before .before .before .before .before .before .before .before .before .before .before)) (records (c .before .before .before .before .before .before .before .before .before .before .before .before)) (second c))
+part-put-two-start c =
+    let start : tie.Start = search in
+    omega (arith, going-inside (count start) (records start) (second c))
 
 part-put-two-end : tie.Need-part-put-two-end
 part-put-two-end c = search needs
 
 put-two-requires : tie.Need-put-two-requires
-put-two-requires c κs = omega (arith, two-length (c .before .before .before .before .before .before .before .before .before .before .before .before .before .args .sheet .kits), going-room (count (c .before .before .before .before .before .before .before .before .before .before .before .before .before)) (records (c .before .before .before .before .before .before .before .before .before .before .before .before .before)) (second (c .before)))
+put-two-requires c κs =
+    let start : tie.Start = search in
+    omega (arith, two-length (start .args .sheet .kits), going-room (count start) (records start) (second (c .before)))
 
 add-records : tie.Need-add-records
-add-records c = omega (arith, going-inside (count (c .before .before .before .before .before .before .before .before .before .before .before .before .before .before .before .before)) (records (c .before .before .before .before .before .before .before .before .before .before .before .before .before .before .before .before)) (second (c .before .before .before .before)), second (c .before .before .before .before) .size, c .before .before .put-two .ensures .ends)
+add-records c =
+    let at-slice-known3 : tie.After-slice-known3 = search in
+    let start : tie.Start = search in
+    omega (
+      arith,
+      going-inside (count start) (records start) (second at-slice-known3),
+      second at-slice-known3 .size,
+      c .before .before .put-two .ensures .ends,
+    )
 
 sub-put-records : tie.Need-sub-put-records
 sub-put-records c = omega (arith, last-inside (third c))
@@ -88,13 +184,19 @@ part-put-records-end : tie.Need-part-put-records-end
 part-put-records-end c = search needs
 
 put-records-requires : tie.Need-put-records-requires
-put-records-requires c κs = (c .before .before .before .before .before .before .before .before .before .before .before .before .before .before .before .before .before .pre .1 .0 .shape, last-room (third (c .before)))
+put-records-requires c κs =
+    let start : tie.Start = search in
+    (start .pre .1 .0 .shape, last-room (third (c .before)))
 
 add-result : tie.Need-add-result
-add-result c = omega (arith, last-inside (third (c .before .before .before .before)), third (c .before .before .before .before) .size, c .before .before .put-records .ensures .ends)
+add-result c =
+    let at-slice-known4 : tie.After-slice-known4 = search in
+    omega (arith, last-inside (third at-slice-known4), third at-slice-known4 .size, c .before .before .put-records .ensures .ends)
 
 same-length : tie.Need-same-length
-same-length c = down-size (all c) (c .before .before .before .before .before .before .before .before .before .before .before .before .before .before .before .before .before .before .before .before .pre .1 .1 .1)
+same-length c =
+    let start : tie.Start = search in
+    down-size (all c) (start .pre .1 .1 .1)
 
 returns : tie.Need-returns
 returns c = all c

@@ -23,8 +23,17 @@ wide c = sym (length-map (c .args .row .places) (λ v. v)) ∙ c .good .1 .1 .0 
 few : (c : tie.Start) → length (listOf (unitsIn (c .args .row))) / 2 < 256
 few c = omega (arith, c .pre .0, row-length (c .args .row) (wide c) (c .pre .0), lines-few (unitsIn (c .args .row)))
 
-going : (c : tie.After-line-count) → Going (c .before .before .before .before .before .before .args .out .now) (set (c .before .before .before .put-two .last .0) 2 (c .line-count .result)) 3 (lineItems placeBytes (listOf (unitsIn (c .before .before .before .before .before .before .args .row)))) (recordItem placeBytes (kitOf (unitsIn (c .before .before .before .before .before .before .args .row)) (c .before .before .before .before .before .before .args .tag)))
-going c = kit-going (unitsIn (c .before .before .before .before .before .before .args .row)) (c .before .before .before .before .before .before .args .tag) (c .line-count .result) (c .before .before .before .put-two .ensures) (c .line-count .ensures) (c .before .before .before .before .before .before .pre .1)
+going : (c : tie.After-line-count) →
+    let at-put-two : tie.After-put-two = search in
+    let start : tie.Start = search in
+    Going (start .args .out .now) (set (at-put-two .put-two .last .0) 2 (c .line-count .result)) 3
+    (lineItems placeBytes (listOf (unitsIn (start .args .row))))
+    (recordItem placeBytes (kitOf (unitsIn (start .args .row)) (start .args .tag)))
+going c =
+    let at-put-two : tie.After-put-two = search in
+    let start : tie.Start = search in
+    kit-going (unitsIn (start .args .row)) (start .args .tag) (c .line-count .result) (at-put-two .put-two .ensures)
+    (c .line-count .ensures) (start .pre .1)
 
 put-two-requires : tie.Need-put-two-requires
 unfolding recordItem inBytes
@@ -34,7 +43,9 @@ line-count-requires : tie.Need-line-count-requires
 line-count-requires c κs = search needs
 
 cast-out : tie.Need-cast-out
-cast-out c = omega (arith, c .line-count .ensures, few (c .before .before .before .before .before .before))
+cast-out c =
+    let start : tie.Start = search in
+    omega (arith, c .line-count .ensures, few start)
 
 slice-write-out : tie.Need-slice-write-out
 slice-write-out c = omega (arith, rw length-set at (last-inside (going c)))
@@ -49,16 +60,29 @@ part-put-lines-end : tie.Need-part-put-lines-end
 part-put-lines-end c = search needs
 
 put-lines-requires : tie.Need-put-lines-requires
-put-lines-requires c κs = (c .before .before .before .before .before .before .before .pre .0, last-room (going (c .before)))
+put-lines-requires c κs =
+    let start : tie.Start = search in
+    (start .pre .0, last-room (going (c .before)))
 
 add-result : tie.Need-add-result
-add-result c = omega (arith, last-inside (going (c .before .before .before .before)), going (c .before .before .before .before) .size, c .before .before .put-lines .ensures .ends)
+add-result c =
+    let at-line-count : tie.After-line-count = search in
+    omega (arith, last-inside (going at-line-count), going at-line-count .size, c .before .before .put-lines .ensures .ends)
 
 same-length : tie.Need-same-length
-same-length c = down-size (going-last (going (c .before .before .before .before)) (c .before .before .put-lines .last .0) (c .before .before .put-lines .result) (c .before .before .put-lines .ensures)) (c .before .before .before .before .before .before .before .before .before .before .pre .1)
+same-length c =
+    let at-put-lines : tie.After-put-lines = search in
+    let at-line-count : tie.After-line-count = search in
+    let start : tie.Start = search in
+    down-size (going-last (going at-line-count) (at-put-lines .put-lines .last .0) (at-put-lines .put-lines .result)
+    (at-put-lines .put-lines .ensures)) (start .pre .1)
 
 returns : tie.Need-returns
-returns c = going-last (going (c .before .before .before .before)) (c .before .before .put-lines .last .0) (c .before .before .put-lines .result) (c .before .before .put-lines .ensures)
+returns c =
+    let at-put-lines : tie.After-put-lines = search in
+    let at-line-count : tie.After-line-count = search in
+    going-last (going at-line-count) (at-put-lines .put-lines .last .0) (at-put-lines .put-lines .result)
+    (at-put-lines .put-lines .ensures)
 
 pub put-kit-spec : {M : Type 1} → statement M
 put-kit-spec =

@@ -16,7 +16,9 @@ use Rattle.writing.proofs.put_lines.Statement.{statement}
 use Rattle.writing.proofs.put_lines.Tie as tie
 
 abbrev Inv-loop : tie.InvT-loop
-Inv-loop out₀ row at₀ i₀ out at i = (row .len ≤ mostUnits) × (length (unitsIn row) ≡ row .len) × Going out₀ out at (lineItems placeBytes (listOf (drop i (unitsIn row)))) (lineItems placeBytes (listOf (unitsIn row)))
+Inv-loop out₀ row at₀ i₀ out at i =
+    (row .len ≤ mostUnits) × (length (unitsIn row) ≡ row .len) × Going out₀ out at
+    (lineItems placeBytes (listOf (drop i (unitsIn row)))) (lineItems placeBytes (listOf (unitsIn row)))
 
 abbrev μ-loop : tie.MeasureT-loop
 μ-loop out₀ row at₀ i₀ out at i = row .len - i
@@ -27,10 +29,16 @@ wide c = sym (length-map (c .args .row .places) (λ v. v)) ∙ c .good .1 .0 .1 
 
 module _ (c : tie.After-line-at Inv-loop μ-loop) where
   abbrev us : List ℕ
-  us = unitsIn (c .before .before .before .before .before .args .row)
+  us =
+      let start : tie.Start Inv-loop μ-loop = search in
+      unitsIn (start .args .row)
 
-  inside : c .before .before .before .loop .i < length us
-  inside = omega (arith, c .before .before .before .loop .inv .1, c .before .if1 .taken)
+  inside :
+      let at-loop : tie.At-loop Inv-loop μ-loop = search in
+      at-loop .loop .i < length us
+  inside =
+      let at-loop : tie.At-loop Inv-loop μ-loop = search in
+      omega (arith, at-loop .loop .inv .1, c .before .if1 .taken)
 
   abbrev item : List ℕ
   item = inBytes placeBytes (c .line-at .result .place) ++ (c .line-at .result .quantity ∷ [])
@@ -38,11 +46,21 @@ module _ (c : tie.After-line-at Inv-loop μ-loop) where
   abbrev rest : List ℕ
   rest = lineItems placeBytes (listOf (drop (c .line-at .result .next) us))
 
-  going : Going (c .before .before .before .before .before .args .out .now) (c .before .before .before .loop .out) (c .before .before .before .loop .at) (item ++ rest) (lineItems placeBytes (listOf us))
-  going = going-same (c .before .before .before .loop .inv .2) (lines-step us (c .before .before .before .loop .i) (c .line-at .result) inside (c .line-at .ensures))
+  going :
+      let at-loop : tie.At-loop Inv-loop μ-loop = search in
+      let start : tie.Start Inv-loop μ-loop = search in
+      Going (start .args .out .now) (at-loop .loop .out) (at-loop .loop .at) (item ++ rest) (lineItems placeBytes (listOf us))
+  going =
+      let at-loop : tie.At-loop Inv-loop μ-loop = search in
+      going-same (at-loop .loop .inv .2) (lines-step us (at-loop .loop .i) (c .line-at .result) inside (c .line-at .ensures))
 
 loop-holds : tie.Need-loop-holds Inv-loop μ-loop
-loop-holds c = (c .before .pre .0, row-length (c .before .args .row) (wide (c .before)) (c .before .pre .0), going-start _ _ (c .before .pre .1))
+loop-holds c = (
+  c .before .pre .0,
+  row-length (c .before .args .row) (wide (c .before)) (c .before .pre .0),
+  going-start _ _
+      (c .before .pre .1),
+)
 
 line-at-requires : tie.Need-line-at-requires Inv-loop μ-loop
 line-at-requires c κs = (c .before .before .loop .inv .0, c .if1 .taken)
@@ -57,22 +75,55 @@ part-put-line-end : tie.Need-part-put-line-end Inv-loop μ-loop
 part-put-line-end c = omega arith
 
 put-line-requires : tie.Need-put-line-requires Inv-loop μ-loop
-put-line-requires c κs = (let r = going-room (item (c .before)) (rest (c .before)) (going (c .before)) in omega (arith, r, length-append (inBytes placeBytes (c .before .line-at .result .place)) (c .before .line-at .result .quantity ∷ []), in-length placeBytes (c .before .line-at .result .place)), line-small (us (c .before)) (c .before .before .before .before .loop .i) (c .before .line-at .result) (inside (c .before)) (c .before .line-at .ensures) (omega (arith, c .before .before .before .before .loop .inv)))
+put-line-requires c κs =
+    let at-loop : tie.At-loop Inv-loop μ-loop = search in (
+      let r = going-room (item (c .before)) (rest (c .before)) (going (c .before)) in omega (
+        arith,
+        r,
+        length-append (inBytes placeBytes (c .before .line-at .result .place)) (c .before .line-at .result .quantity ∷ []),
+        in-length placeBytes (c .before .line-at .result .place),
+      ),
+      line-small (us (c .before)) (at-loop .loop .i)
+          (c .before .line-at .result) (inside (c .before)) (c .before .line-at .ensures) (omega (arith, at-loop .loop .inv)),
+    )
 
 add-at : tie.Need-add-at Inv-loop μ-loop
-add-at c = omega (arith, going-inside (item (c .before .before .before .before)) (rest (c .before .before .before .before)) (going (c .before .before .before .before)), c .before .before .put-line .ensures .ends)
+add-at c =
+    let at-line-at : tie.After-line-at Inv-loop μ-loop = search in
+    omega (arith, going-inside (item at-line-at) (rest at-line-at) (going at-line-at), c .before .before .put-line .ensures .ends)
 
 loop-less : tie.Need-loop-less Inv-loop μ-loop
-loop-less c = omega (arith, inside (c .before .before .before .before), c .before .before .before .before .before .before .before .loop .inv .1, line-on (us (c .before .before .before .before)) (c .before .before .before .before .before .before .before .loop .i) (c .before .before .before .before .line-at .result) (inside (c .before .before .before .before)) (c .before .before .before .before .line-at .ensures))
+loop-less c =
+    let at-line-at : tie.After-line-at Inv-loop μ-loop = search in
+    let at-loop : tie.At-loop Inv-loop μ-loop = search in
+    omega (
+      arith,
+      inside at-line-at,
+      at-loop .loop .inv .1,
+      line-on (us at-line-at) (at-loop .loop .i)
+          (at-line-at .line-at .result) (inside at-line-at) (at-line-at .line-at .ensures),
+    )
 
 loop-again : tie.Need-loop-again Inv-loop μ-loop
-loop-again c = (c .before .before .before .before .before .before .before .loop .inv .0, c .before .before .before .before .before .before .before .loop .inv .1, going-on (item (c .before .before .before .before)) (rest (c .before .before .before .before)) (going (c .before .before .before .before)) (c .before .before .put-line .last .0) (c .before .before .put-line .result) (c .before .before .put-line .ensures))
+loop-again c =
+    let at-put-line : tie.After-put-line Inv-loop μ-loop = search in
+    let at-line-at : tie.After-line-at Inv-loop μ-loop = search in
+    let at-loop : tie.At-loop Inv-loop μ-loop = search in (
+      at-loop .loop .inv .0,
+      at-loop .loop .inv .1,
+      going-on (item at-line-at) (rest at-line-at) (going at-line-at)
+          (at-put-line .put-line .last .0) (at-put-line .put-line .result) (at-put-line .put-line .ensures),
+    )
 
 same-length : tie.Need-same-length Inv-loop μ-loop
 same-length c = c .before .before .loop .inv .2 .size
 
 returns : tie.Need-returns Inv-loop μ-loop
-returns c = going-end (going-same (c .before .before .loop .inv .2) (lines-end (unitsIn (c .before .before .before .before .args .row)) (c .before .before .loop .i) (omega (arith, c .before .before .loop .inv))))
+returns c =
+    let at-loop : tie.At-loop Inv-loop μ-loop = search in
+    let start : tie.Start Inv-loop μ-loop = search in
+    going-end (going-same (at-loop .loop .inv .2)
+    (lines-end (unitsIn (start .args .row)) (at-loop .loop .i) (omega (arith, at-loop .loop .inv))))
 
 pub put-lines-spec : {M : Type 1} → statement M
 put-lines-spec =

@@ -26,8 +26,10 @@ same-length c = c .before .before .copy-in .kept .0 ∙ simp length-set
 
 returns : tie.Need-returns
 unfolding numberItem
-returns c = let l = c .before .before .before .before .before .before .args .out .now in
-    let n = c .before .before .before .before .before .before .args .num .now in
+returns c =
+    let start : tie.Start = search in
+    let l = start .args .out .now in
+    let n = start .args .num .now in
     record { ends = omega arith; is = c .before .before .copy-in .ensures ∙ laid-cons l 0 (length n) n (omega arith) }
 
 pub put-number-spec : {M : Type 1} → statement M

@@ -20,19 +20,38 @@ abbrev μ-loop : tie.MeasureT-loop
 
 module _ (c : tie.In-loop Inv-loop μ-loop) where
   abbrev item : List ℕ
-  item = numberItem (numberAt (c .before .before .before .before .args .reg .now) (c .before .loop .k))
+  item =
+      let start : tie.Start Inv-loop μ-loop = search in
+      numberItem (numberAt (start .args .reg .now) (c .before .loop .k))
 
   abbrev rest : List ℕ
-  rest = numbersFrom (c .before .before .before .before .args .reg .now) (c .before .loop .k + 1) (c .before .before .before .before .args .n - (c .before .loop .k + 1))
+  rest =
+      let start : tie.Start Inv-loop μ-loop = search in
+      numbersFrom (start .args .reg .now) (c .before .loop .k + 1) (start .args .n - (c .before .loop .k + 1))
 
-  going : Going (c .before .before .before .before .args .out .now) (c .before .loop .out) (c .before .loop .at) (item ++ rest) (numbersFrom (c .before .before .before .before .args .reg .now) 0 (c .before .before .before .before .args .n))
-  going = going-same (c .before .loop .inv .1) (numbers-step (c .before .before .before .before .args .reg .now) (c .before .before .before .before .args .n) (c .before .loop .k) (omega arith))
+  going :
+      let start : tie.Start Inv-loop μ-loop = search in
+      Going (start .args .out .now) (c .before .loop .out) (c .before .loop .at) (item ++ rest)
+      (numbersFrom (start .args .reg .now) 0 (start .args .n))
+  going =
+      let start : tie.Start Inv-loop μ-loop = search in
+      going-same (c .before .loop .inv .1)
+      (numbers-step (start .args .reg .now) (start .args .n) (c .before .loop .k) (omega arith))
 
-ends : (c : tie.After-slice-known2 Inv-loop μ-loop) → c .before .before .put-number .result ≡ length (item (c .before .before .before .before .before))
-ends c = rw (← c .before .before .before .number-in .ensures .0) (c .before .before .put-number .ensures .ends)
+ends : (c : tie.After-slice-known2 Inv-loop μ-loop) →
+    let in-loop : tie.In-loop Inv-loop μ-loop = search in
+    c .before .before .put-number .result ≡ length (item in-loop)
+ends c =
+    let at-number-in : tie.After-number-in Inv-loop μ-loop = search in
+    rw (← at-number-in .number-in .ensures .0) (c .before .before .put-number .ensures .ends)
 
 loop-holds : tie.Need-loop-holds Inv-loop μ-loop
-loop-holds c = (omega arith, rw sub-zero (going-start (c .before .before .args .out .now) (numbersFrom (c .before .before .args .reg .now) 0 (c .before .before .args .n)) (c .before .before .pre .1)))
+loop-holds c =
+    let start : tie.Start Inv-loop μ-loop = search in (
+      omega arith,
+      rw sub-zero
+          (going-start (start .args .out .now) (numbersFrom (start .args .reg .now) 0 (start .args .n)) (start .pre .1)),
+    )
 
 sub-put-number : tie.Need-sub-put-number Inv-loop μ-loop
 sub-put-number c = omega (arith, going-inside (item c) (rest c) (going c))
@@ -44,13 +63,20 @@ part-put-number-end : tie.Need-part-put-number-end Inv-loop μ-loop
 part-put-number-end c = omega arith
 
 number-in-requires : tie.Need-number-in-requires Inv-loop μ-loop
-number-in-requires c κs = (omega (arith, c .before .before .before .before .before .pre .0 .inside), c .before .before .before .before .before .pre .0 .short (c .before .before .loop .k) (omega arith))
+number-in-requires c κs =
+    let start : tie.Start Inv-loop μ-loop = search in
+    (omega (arith, start .pre .0 .inside), start .pre .0 .short (c .before .before .loop .k) (omega arith))
 
 put-number-requires : tie.Need-put-number-requires Inv-loop μ-loop
-put-number-requires c κs = (c .number-in .ensures .1, rw (c .number-in .ensures .0) (going-room (item (c .before .before)) (rest (c .before .before)) (going (c .before .before))))
+put-number-requires c κs =
+    let in-loop : tie.In-loop Inv-loop μ-loop = search in
+    (c .number-in .ensures .1, rw (c .number-in .ensures .0) (going-room (item in-loop) (rest in-loop) (going in-loop)))
 
 add-at : tie.Need-add-at Inv-loop μ-loop
-add-at c = omega (arith, going-inside (item (c .before .before .before .before .before)) (rest (c .before .before .before .before .before)) (going (c .before .before .before .before .before)), c .before .before .before .before .before .before .loop .inv .1 .size, ends c)
+add-at c =
+    let in-loop : tie.In-loop Inv-loop μ-loop = search in
+    let at-loop : tie.At-loop Inv-loop μ-loop = search in
+    omega (arith, going-inside (item in-loop) (rest in-loop) (going in-loop), at-loop .loop .inv .1 .size, ends c)
 
 add-k : tie.Need-add-k Inv-loop μ-loop
 add-k c = omega arith
@@ -59,13 +85,23 @@ loop-less : tie.Need-loop-less Inv-loop μ-loop
 loop-less c = omega arith
 
 loop-again : tie.Need-loop-again Inv-loop μ-loop
-loop-again c = (omega arith, going-on (item (c .before .before .before .before .before)) (rest (c .before .before .before .before .before)) (going (c .before .before .before .before .before)) (c .before .before .put-number .last .0) (c .before .before .put-number .result) (rw (← c .before .before .before .number-in .ensures .0) (c .before .before .put-number .ensures)))
+loop-again c =
+    let at-put-number : tie.After-put-number Inv-loop μ-loop = search in
+    let at-number-in : tie.After-number-in Inv-loop μ-loop = search in
+    let in-loop : tie.In-loop Inv-loop μ-loop = search in (
+      omega arith,
+      going-on (item in-loop) (rest in-loop) (going in-loop) (at-put-number .put-number .last .0)
+          (at-put-number .put-number .result) (rw (← at-number-in .number-in .ensures .0) (at-put-number .put-number .ensures)),
+    )
 
 same-length : tie.Need-same-length Inv-loop μ-loop
 same-length c = c .before .loop .inv .1 .size
 
 returns : tie.Need-returns Inv-loop μ-loop
-returns c = going-end (going-same (c .before .loop .inv .1) (numbers-end (c .before .before .before .before .args .reg .now) (c .before .before .before .before .args .n) (c .before .loop .k) (omega arith)))
+returns c =
+    let start : tie.Start Inv-loop μ-loop = search in
+    going-end (going-same (c .before .loop .inv .1)
+    (numbers-end (start .args .reg .now) (start .args .n) (c .before .loop .k) (omega arith)))
 
 pub put-numbers-spec : {M : Type 1} → statement M
 put-numbers-spec =

@@ -11,17 +11,54 @@ use borrow.Author.Needs.{needs}
 use Rattle.writing.proofs.put_records.Statement.{statement}
 use Rattle.writing.proofs.put_records.Tie as tie
 
-first : (c : tie.After-slice-known2) → Going (c .before .before .before .before .before .before .args .out .now) (c .before .before .put-own .last .0) (c .before .before .put-own .result) (recordsFrom (c .before .before .before .before .before .before .args .nodes .now) (child (c .before .before .before .before .before .before .args .nodes .now) 0)) (recordsAt (c .before .before .before .before .before .before .args .nodes .now) (walkAll (c .before .before .before .before .before .before .args .nodes .now)))
-first c = going-of (recordsFrom (c .before .before .before .before .before .before .args .nodes .now) (child (c .before .before .before .before .before .before .args .nodes .now) 0)) (c .before .before .put-own .ensures) (root-first (c .before .before .before .before .before .before .args .nodes .now)) (c .before .before .before .before .before .before .pre .1)
+first : (c : tie.After-slice-known2) →
+    let at-put-own : tie.After-put-own = search in
+    let start : tie.Start = search in
+    Going (start .args .out .now) (at-put-own .put-own .last .0) (at-put-own .put-own .result)
+    (recordsFrom (start .args .nodes .now) (child (start .args .nodes .now) 0))
+    (recordsAt (start .args .nodes .now) (walkAll (start .args .nodes .now)))
+first c =
+    let start : tie.Start = search in
+    going-of (recordsFrom (start .args .nodes .now) (child (start .args .nodes .now) 0)) (c .before .before .put-own .ensures)
+    (root-first (start .args .nodes .now)) (start .pre .1)
 
-below : (c : tie.After-slice-known3) → SetDown (rest-of (c .before .before .before .before .before .before .before .put-own .last .0) (c .before .before .before .before .before .before .before .put-own .result)) (c .before .before .put-kits .last .0) (recordsFrom (c .before .before .before .before .before .before .before .before .before .before .before .args .nodes .now) (child (c .before .before .before .before .before .before .before .before .before .before .before .args .nodes .now) 0)) (c .before .before .put-kits .result)
-below c = down-same (c .before .before .put-kits .ensures) (ap (recordsFrom (c .before .before .before .before .before .before .before .before .before .before .before .args .nodes .now)) (c .before .before .before .child-at .ensures .0))
+below : (c : tie.After-slice-known3) →
+    let at-put-kits : tie.After-put-kits = search in
+    let at-put-own : tie.After-put-own = search in
+    let start : tie.Start = search in
+    SetDown (rest-of (at-put-own .put-own .last .0) (at-put-own .put-own .result)) (at-put-kits .put-kits .last .0)
+    (recordsFrom (start .args .nodes .now) (child (start .args .nodes .now) 0)) (at-put-kits .put-kits .result)
+below c =
+    let at-child-at : tie.After-child-at = search in
+    let start : tie.Start = search in
+    down-same (c .before .before .put-kits .ensures)
+    (ap (recordsFrom (start .args .nodes .now)) (at-child-at .child-at .ensures .0))
 
-both : (c : tie.After-slice-known3) → SetDown (c .before .before .before .before .before .before .before .before .before .before .before .args .out .now) (back (c .before .before .before .before .before .before .before .put-own .last .0) (c .before .before .before .before .before .before .before .put-own .result) (c .before .before .put-kits .last .0)) (recordsAt (c .before .before .before .before .before .before .before .before .before .before .before .args .nodes .now) (walkAll (c .before .before .before .before .before .before .before .before .before .before .before .args .nodes .now))) (c .before .before .before .before .before .before .before .put-own .result + c .before .before .put-kits .result)
-both c = going-last (first (c .before .before .before .before .before)) (c .before .before .put-kits .last .0) (c .before .before .put-kits .result) (below c)
+both : (c : tie.After-slice-known3) →
+    let at-put-kits : tie.After-put-kits = search in
+    let at-put-own : tie.After-put-own = search in
+    let start : tie.Start = search in
+    SetDown (start .args .out .now)
+    (back (at-put-own .put-own .last .0) (at-put-own .put-own .result) (at-put-kits .put-kits .last .0))
+    (recordsAt (start .args .nodes .now) (walkAll (start .args .nodes .now)))
+    (at-put-own .put-own .result + at-put-kits .put-kits .result)
+both c =
+    let at-put-kits : tie.After-put-kits = search in
+    let at-slice-known2 : tie.After-slice-known2 = search in
+    going-last (first at-slice-known2) (at-put-kits .put-kits .last .0) (at-put-kits .put-kits .result) (below c)
 
 put-own-requires : tie.Need-put-own-requires
-put-own-requires c κs = (c .before .before .before .pre .0, (root-inside (c .before .before .before .pre .0), first-room (c .before .before .before .args .out .now) (ownRecord (c .before .before .before .args .nodes .now) 0) (recordsFrom (c .before .before .before .args .nodes .now) (child (c .before .before .before .args .nodes .now) 0)) (recordsAt (c .before .before .before .args .nodes .now) (walkAll (c .before .before .before .args .nodes .now))) (root-first (c .before .before .before .args .nodes .now)) (c .before .before .before .pre .1)))
+put-own-requires c κs =
+    let start : tie.Start = search in (
+      start .pre .0,
+      (
+        root-inside (start .pre .0),
+        first-room (start .args .out .now) (ownRecord (start .args .nodes .now) 0)
+            (recordsFrom (start .args .nodes .now) (child (start .args .nodes .now) 0))
+            (recordsAt (start .args .nodes .now) (walkAll (start .args .nodes .now))) (root-first (start .args .nodes .now))
+            (start .pre .1),
+      ),
+    )
 
 sub-put-kits : tie.Need-sub-put-kits
 sub-put-kits c = omega (arith, last-inside (first c))
@@ -33,16 +70,25 @@ part-put-kits-end : tie.Need-part-put-kits-end
 part-put-kits-end c = search needs
 
 child-at-requires : tie.Need-child-at-requires
-child-at-requires c κs = root-inside (c .before .before .before .before .before .before .before .pre .0)
+child-at-requires c κs =
+    let start : tie.Start = search in
+    root-inside (start .pre .0)
 
 put-kits-requires : tie.Need-put-kits-requires
-put-kits-requires c κs = let e = c .child-at .ensures .0 in (c .before .before .before .before .before .before .before .before .pre .0, (rw e (root-child (c .before .before .before .before .before .before .before .before .pre .0)), rw e (last-room (first (c .before .before)))))
+put-kits-requires c κs =
+    let start : tie.Start = search in
+    let e = c .child-at .ensures .0 in
+    (start .pre .0, (rw e (root-child (start .pre .0)), rw e (last-room (first (c .before .before)))))
 
 add-result : tie.Need-add-result
-add-result c = omega (arith, last-inside (first (c .before .before .before .before .before)), first (c .before .before .before .before .before) .size, below c .ends)
+add-result c =
+    let at-slice-known2 : tie.After-slice-known2 = search in
+    omega (arith, last-inside (first at-slice-known2), first at-slice-known2 .size, below c .ends)
 
 same-length : tie.Need-same-length
-same-length c = down-size (both c) (c .before .before .before .before .before .before .before .before .before .before .before .pre .1)
+same-length c =
+    let start : tie.Start = search in
+    down-size (both c) (start .pre .1)
 
 returns : tie.Need-returns
 returns c = both c

@@ -16,7 +16,9 @@ use Rattle.writing.proofs.row_at.Statement.{statement}
 use Rattle.writing.proofs.row_at.Tie as tie
 
 abbrev Inv-loop : tie.InvT-loop
-Inv-loop nodes i row₀ node₀ at₀ row node at = (length (row .places) ≡ mostUnits) × (row .len ≡ length (nodeRow nodes i)) × Live nodes node × (at ≡ depth nodes node) × (laid (row .places) 0 (nodeRow nodes node) ≡ nodeRow nodes i ++ replicate (mostUnits - length (nodeRow nodes i)) 0)
+Inv-loop nodes i row₀ node₀ at₀ row node at =
+    (length (row .places) ≡ mostUnits) × (row .len ≡ length (nodeRow nodes i)) × Live nodes node × (at ≡ depth nodes node)
+    × (laid (row .places) 0 (nodeRow nodes node) ≡ nodeRow nodes i ++ replicate (mostUnits - length (nodeRow nodes i)) 0)
 
 abbrev μ-loop : tie.MeasureT-loop
 μ-loop nodes i row₀ node₀ at₀ row node at = at
@@ -28,43 +30,92 @@ depth-at-requires : tie.Need-depth-at-requires Inv-loop μ-loop
 depth-at-requires c κs = node-inside (c .before .args .nodes .now) (c .before .pre .0) (c .before .args .i) (c .before .pre .1)
 
 loop-holds : tie.Need-loop-holds Inv-loop μ-loop
-loop-holds c = (refl, c .depth-at .ensures .0 ∙ node-deep (c .before .before .args .nodes .now) (c .before .before .pre .0) (c .before .before .args .i) (c .before .before .pre .1), c .before .before .pre .1, c .depth-at .ensures .0, laid-zeros (nodeRow (c .before .before .args .nodes .now) (c .before .before .args .i)))
+loop-holds c =
+    let start : tie.Start Inv-loop μ-loop = search in (
+      refl,
+      c .depth-at .ensures .0 ∙ node-deep (start .args .nodes .now) (start .pre .0) (start .args .i) (start .pre .1),
+      start .pre .1,
+      c .depth-at .ensures .0,
+      laid-zeros (nodeRow (start .args .nodes .now) (start .args .i)),
+    )
 
 sub-at : tie.Need-sub-at Inv-loop μ-loop
 sub-at c = omega arith
 
 label-at-requires : tie.Need-label-at-requires Inv-loop μ-loop
-label-at-requires c κs = node-inside (c .before .before .before .before .args .nodes .now) (c .before .before .before .before .pre .0) (c .before .loop .node) (c .before .loop .inv .2)
+label-at-requires c κs =
+    let start : tie.Start Inv-loop μ-loop = search in
+    node-inside (start .args .nodes .now) (start .pre .0) (c .before .loop .node) (c .before .loop .inv .2)
 
 mul-row : tie.Need-mul-row Inv-loop μ-loop
-mul-row c = omega (arith, c .before .before .loop .inv .3, node-deep (c .before .before .before .before .before .args .nodes .now) (c .before .before .before .before .before .pre .0) (c .before .before .loop .node) (c .before .before .loop .inv .2), node-short (c .before .before .before .before .before .args .nodes .now) (c .before .before .before .before .before .pre .0) (c .before .before .loop .node) (c .before .before .loop .inv .2))
+mul-row c =
+    let at-loop : tie.At-loop Inv-loop μ-loop = search in
+    let start : tie.Start Inv-loop μ-loop = search in
+    omega (
+      arith,
+      at-loop .loop .inv .3,
+      node-deep (start .args .nodes .now) (start .pre .0) (at-loop .loop .node)
+          (at-loop .loop .inv .2),
+      node-short (start .args .nodes .now) (start .pre .0) (at-loop .loop .node) (at-loop .loop .inv .2),
+    )
 
 element-write-row : tie.Need-element-write-row Inv-loop μ-loop
-element-write-row c = omega (arith, c .before .before .loop .inv .0, c .before .before .loop .inv .3, node-deep (c .before .before .before .before .before .args .nodes .now) (c .before .before .before .before .before .pre .0) (c .before .before .loop .node) (c .before .before .loop .inv .2), node-short (c .before .before .before .before .before .args .nodes .now) (c .before .before .before .before .before .pre .0) (c .before .before .loop .node) (c .before .before .loop .inv .2))
+element-write-row c =
+    let at-loop : tie.At-loop Inv-loop μ-loop = search in
+    let start : tie.Start Inv-loop μ-loop = search in
+    omega (
+      arith,
+      at-loop .loop .inv .0,
+      at-loop .loop .inv .3,
+      node-deep (start .args .nodes .now) (start .pre .0)
+          (at-loop .loop .node) (at-loop .loop .inv .2),
+      node-short (start .args .nodes .now) (start .pre .0) (at-loop .loop .node)
+          (at-loop .loop .inv .2),
+    )
 
 parent-at-requires : tie.Need-parent-at-requires Inv-loop μ-loop
-parent-at-requires c κs = node-inside (c .before .before .before .before .before .args .nodes .now) (c .before .before .before .before .before .pre .0) (c .before .before .loop .node) (c .before .before .loop .inv .2)
+parent-at-requires c κs =
+    let at-loop : tie.At-loop Inv-loop μ-loop = search in
+    let start : tie.Start Inv-loop μ-loop = search in
+    node-inside (start .args .nodes .now) (start .pre .0) (at-loop .loop .node) (at-loop .loop .inv .2)
 
 loop-less : tie.Need-loop-less Inv-loop μ-loop
 loop-less c = omega arith
 
 loop-again : tie.Need-loop-again Inv-loop μ-loop
-loop-again c = let N = c .before .before .before .before .before .before .args .nodes .now in
-    let S : Shape mostPlace N = c .before .before .before .before .before .before .pre .0 in
-    let j = c .before .before .before .loop .node in
-    let v : Live N j = c .before .before .before .loop .inv .2 in
-    let at = c .before .before .before .loop .at in
-    let ps = c .before .before .before .loop .row .places in
-    let d : at ≡ depth N j = c .before .before .before .loop .inv .3 in
-    let w : length ps ≡ mostUnits = c .before .before .before .loop .inv .0 in
-    let u = row-up N S j v ps at w d (omega arith) in
-    (rw length-set w, c .before .before .before .loop .inv .1, rw (c .parent-at .ensures .0) (up-live N S j v), rw (c .parent-at .ensures .0) (omega (arith, up-deep N S j v (omega arith))), rw (c .before .label-at .ensures, c .parent-at .ensures .0) (u ∙ c .before .before .before .loop .inv .4))
+loop-again c =
+    let at-loop : tie.At-loop Inv-loop μ-loop = search in
+    let start : tie.Start Inv-loop μ-loop = search in
+    let N = start .args .nodes .now in
+    let S : Shape mostPlace N = start .pre .0 in
+    let j = at-loop .loop .node in
+    let v : Live N j = at-loop .loop .inv .2 in
+    let at = at-loop .loop .at in
+    let ps = at-loop .loop .row .places in
+    let d : at ≡ depth N j = at-loop .loop .inv .3 in
+    let w : length ps ≡ mostUnits = at-loop .loop .inv .0 in
+    let u = row-up N S j v ps at w d (omega arith) in (
+      rw length-set w,
+      at-loop .loop .inv .1,
+      rw (c .parent-at .ensures .0) (up-live N S j v),
+      rw (c .parent-at .ensures .0)
+          (omega (arith, up-deep N S j v (omega arith))),
+      rw (c .before .label-at .ensures, c .parent-at .ensures .0)
+          (u ∙ at-loop .loop .inv .4),
+    )
 
 returns : tie.Need-returns Inv-loop μ-loop
-returns c = let N = c .before .before .before .before .args .nodes .now in
-    let S : Shape mostPlace N = c .before .before .before .before .pre .0 in
-    let e : nodeRow N (c .before .loop .node) ≡ [] = row-over N S (c .before .loop .node) (c .before .loop .inv .2) (omega (arith, c .before .loop .inv .3)) in
-    (ap (made (c .before .loop .row .len)) (sym (laid-nil _ 0) ∙ (rw e at (c .before .loop .inv .4))) ∙ ap (λ n. made n (nodeRow N (c .before .before .before .before .args .i) ++ replicate (mostUnits - length (nodeRow N (c .before .before .before .before .args .i))) 0)) (c .before .loop .inv .1), node-short N S (c .before .before .before .before .args .i) (c .before .before .before .before .pre .1))
+returns c =
+    let start : tie.Start Inv-loop μ-loop = search in
+    let N = start .args .nodes .now in
+    let S : Shape mostPlace N = start .pre .0 in
+    let e : nodeRow N (c .before .loop .node) ≡ [] = row-over N S (c .before .loop .node) (c .before .loop .inv .2)
+    (omega (arith, c .before .loop .inv .3)) in (
+      ap (made (c .before .loop .row .len)) (sym (laid-nil _ 0) ∙ (rw e at (c .before .loop .inv .4))) ∙ ap
+          (λ n. made n (nodeRow N (start .args .i) ++ replicate (mostUnits - length (nodeRow N (start .args .i))) 0))
+          (c .before .loop .inv .1),
+      node-short N S (start .args .i) (start .pre .1),
+    )
 
 pub row-at-spec : {M : Type 1} → statement M
 row-at-spec =
