@@ -140,8 +140,7 @@ add-count c =
     omega (
       arith,
       going-inside (numbers start) (count start ++ records start) (first at-slice-known2),
-      first
-          at-slice-known2 .size,
+      first at-slice-known2 .size,
       numbers-down c .ends,
     )
 
@@ -190,8 +189,12 @@ put-records-requires c κs =
 
 add-result : tie.Need-add-result
 add-result c =
-    let at-slice-known4 : tie.After-slice-known4 = search in
-    omega (arith, last-inside (third at-slice-known4), third at-slice-known4 .size, c .before .before .put-records .ensures .ends)
+    omega (
+      arith,
+      last-inside (third (c .before .before .before .before)),
+      third (c .before .before .before .before) .size,
+      c .before .before .put-records .ensures .ends,
+    )
 
 same-length : tie.Need-same-length
 same-length c =
