@@ -20,19 +20,28 @@ clear-nodes-requires : tie.Need-clear-nodes-requires Inv-loop μ-loop
 clear-nodes-requires c κs = tt
 
 loop-holds : tie.Need-loop-holds Inv-loop μ-loop
-loop-holds c = (omega arith, filling-start (c .before .before .before .before .before .before .pre) (c .before .before .clear-nodes .ensures), refl)
+loop-holds c =
+    let start : tie.Start Inv-loop μ-loop = search in
+    (omega arith, filling-start (start .pre) (c .before .before .clear-nodes .ensures), refl)
 
 row-in-requires : tie.Need-row-in-requires Inv-loop μ-loop
 row-in-requires c κs = let F = c .before .before .loop .inv .1 in (record-whole F (omega arith), units-short F (omega arith))
 
 two-at-requires : tie.Need-two-at-requires Inv-loop μ-loop
-two-at-requires c κs = omega (arith, record-whole (c .before .before .before .loop .inv .1) (omega arith))
+two-at-requires c κs =
+    let at-loop : tie.At-loop Inv-loop μ-loop = search in
+    omega (arith, record-whole (at-loop .loop .inv .1) (omega arith))
 
 insert-requires : tie.Need-insert-requires Inv-loop μ-loop
-insert-requires c κs = may-insert (c .before .before .before .before .loop .inv .1) (omega arith) (c .before .row-in .result) (c .before .row-in .ensures) (c .two-at .result) (c .two-at .ensures)
+insert-requires c κs =
+    let at-loop : tie.At-loop Inv-loop μ-loop = search in
+    may-insert (at-loop .loop .inv .1) (omega arith) (c .before .row-in .result) (c .before .row-in .ensures) (c .two-at .result)
+    (c .two-at .ensures)
 
 record-end-requires : tie.Need-record-end-requires Inv-loop μ-loop
-record-end-requires c κs = omega (arith, record-whole (c .before .before .before .before .before .before .before .loop .inv .1) (omega arith))
+record-end-requires c κs =
+    let at-loop : tie.At-loop Inv-loop μ-loop = search in
+    omega (arith, record-whole (at-loop .loop .inv .1) (omega arith))
 
 add-k : tie.Need-add-k Inv-loop μ-loop
 add-k c = omega arith
@@ -41,13 +50,30 @@ loop-less : tie.Need-loop-less Inv-loop μ-loop
 loop-less c = omega arith
 
 loop-again : tie.Need-loop-again Inv-loop μ-loop
-loop-again c = (omega arith, filling-on (c .before .before .before .before .before .before .before .before .loop .inv .1) (omega arith) (c .before .before .before .before .before .row-in .result) (c .before .before .before .before .before .row-in .ensures) (c .before .before .before .before .two-at .result) (c .before .before .before .before .two-at .ensures) (insertedReply (c .before .before .before .insert .result)) (c .before .before .before .insert .last .0) (c .before .before .before .insert .ensures) (c .record-end .result) (c .record-end .ensures), c .before .before .before .insert .kept .0 ∙ c .before .before .before .before .before .before .before .before .loop .inv .2)
+loop-again c =
+    let at-insert : tie.After-insert Inv-loop μ-loop = search in
+    let at-two-at : tie.After-two-at Inv-loop μ-loop = search in
+    let at-row-in : tie.After-row-in Inv-loop μ-loop = search in
+    let at-loop : tie.At-loop Inv-loop μ-loop = search in (
+      omega arith,
+      filling-on (at-loop .loop .inv .1) (omega arith) (at-row-in .row-in .result) (at-row-in .row-in .ensures)
+          (at-two-at .two-at .result) (at-two-at .two-at .ensures) (insertedReply (at-insert .insert .result))
+          (at-insert .insert .last .0) (at-insert .insert .ensures) (c .record-end .result) (c .record-end .ensures),
+      at-insert .insert .kept .0 ∙ at-loop .loop .inv .2,
+    )
 
 same-length : tie.Need-same-length Inv-loop μ-loop
-same-length c = c .before .loop .inv .2 ∙ c .before .before .before .before .clear-nodes .kept .0
+same-length c =
+    let at-clear-nodes : tie.After-clear-nodes Inv-loop μ-loop = search in
+    c .before .loop .inv .2 ∙ at-clear-nodes .clear-nodes .kept .0
 
 returns : tie.Need-returns Inv-loop μ-loop
-returns c = filling-end (c .before .loop .inv .1) (omega arith) ∙ ap (λ (N : List ℕ). enterAll N (kitsRead (c .before .before .before .before .before .before .before .before .args .s .now) (c .before .before .before .before .before .before .before .before .args .from) (c .before .before .before .before .before .before .before .before .args .m))) (c .before .before .before .before .clear-nodes .ensures)
+returns c =
+    let at-clear-nodes : tie.After-clear-nodes Inv-loop μ-loop = search in
+    let start : tie.Start Inv-loop μ-loop = search in
+    filling-end (c .before .loop .inv .1) (omega arith) ∙ ap
+    (λ (N : List ℕ). enterAll N (kitsRead (start .args .s .now) (start .args .from) (start .args .m)))
+    (at-clear-nodes .clear-nodes .ensures)
 
 pub fill-nodes-spec : {M : Type 1} → statement M
 fill-nodes-spec =

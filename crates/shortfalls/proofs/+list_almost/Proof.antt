@@ -156,7 +156,7 @@ module _ (t : ℕ) where
       let at-next-at : lts.After-next-at (R t) (At t) own.Post = search in
       let at-pass : lts.After-pass (R t) (At t) own.Post = search in
       let at-label-at : lts.After-label-at (R t) (At t) own.Post = search in
-      let start = at-label-at .before .before .before .before in
+      let start = at-label-at .before .before .before .before .before in
       let h = to-next (v at-label-at) (at-next-at .next-at .ensures .0) in
       let below = foundFrom (almost (start .args .bin .now) (start .args .d)) (start .args .nodes .now)
       (at-child-at .child-at .result) in
