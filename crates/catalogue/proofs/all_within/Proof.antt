@@ -21,16 +21,17 @@ refused-requires c κs = search needs
 
 returns : tie.Need-returns
 returns c =
-    let at-check-lent = c .before .before in
-    let start = at-check-lent .before .before .before .before .before in
-    all-refused (start .args .reg .now) (start .args .nodes .now) (start .args .bin .now) _ (at-check-lent .check-lent .ensures) isWithin (start .args .out .now) (sym (c .before .refused .ensures) ∙ c .if1 .taken)
+    let start : tie.Start = search in
+    all-refused (start .args .reg .now) (start .args .nodes .now) (start .args .bin .now) _
+    (c .before .before .check-lent .ensures) isWithin (start .args .out .now) (sym (c .before .refused .ensures) ∙ c .if1 .taken)
 
 all-within-requires : tie.Need-all-within-requires
 all-within-requires c κs =
-    let at-refused = c .before .before in
-    let at-check-lent = at-refused .before in
-    let start = at-check-lent .before .before .before .before .before in
-    let p = lent-passed (start .args .reg .now) (start .args .nodes .now) (start .args .bin .now) (ap isRefused (sym (at-check-lent .check-lent .ensures)) ∙ sym (at-refused .refused .ensures) ∙ c .before .if1 .left) in (lent-sound _ _ (p .both), lent-good _ _ _ p)
+    let at-check-lent : tie.After-check-lent = search in
+    let start : tie.Start = search in
+    let p = lent-passed (start .args .reg .now) (start .args .nodes .now) (start .args .bin .now)
+    (ap isRefused (sym (at-check-lent .check-lent .ensures)) ∙ sym (c .before .before .refused .ensures)
+    ∙ c .before .if1 .left) in (lent-sound _ _ (p .both), lent-good _ _ _ p)
 
 listed-answer-requires : tie.Need-listed-answer-requires
 listed-answer-requires c κs = search needs
@@ -40,12 +41,14 @@ same-length c = search needs
 
 returns-2 : tie.Need-returns-2
 returns-2 c =
-    let at-all-within = c .before .before .before in
-    let at-if1 = at-all-within .before .before in
-    let at-refused = at-if1 .before in
-    let at-check-lent = at-refused .before in
-    let start = at-check-lent .before .before .before .before .before in
-    all-done (start .args .reg .now) (start .args .nodes .now) (start .args .bin .now) _ (at-check-lent .check-lent .ensures) isWithin (start .args .out .now) _ _ _ (sym (at-refused .refused .ensures) ∙ at-if1 .if1 .left) (c .listed-answer .ensures) (at-all-within .all-within .ensures)
+    let at-all-within : tie.After-all-within = search in
+    let else1 : tie.Else1 = search in
+    let at-refused : tie.After-refused = search in
+    let at-check-lent : tie.After-check-lent = search in
+    let start : tie.Start = search in
+    all-done (start .args .reg .now) (start .args .nodes .now) (start .args .bin .now) _ (at-check-lent .check-lent .ensures)
+    isWithin (start .args .out .now) _ _ _ (sym (at-refused .refused .ensures) ∙ else1 .if1 .left) (c .listed-answer .ensures)
+    (at-all-within .all-within .ensures)
 
 pub all-within-spec : {M : Type 1} → statement M
 all-within-spec =

@@ -21,26 +21,28 @@ refused-requires c κs = search needs
 
 returns : tie.Need-returns
 returns c =
-    let at-check-lent = c .before .before in
-    let start = at-check-lent .before .before .before .before in
-    any-refused (start .args .reg .now) (start .args .nodes .now) (start .args .bin .now) _ (at-check-lent .check-lent .ensures) isWithin (sym (c .before .refused .ensures) ∙ c .if1 .taken)
+    let start : tie.Start = search in
+    any-refused (start .args .reg .now) (start .args .nodes .now) (start .args .bin .now) _
+    (c .before .before .check-lent .ensures) isWithin (sym (c .before .refused .ensures) ∙ c .if1 .taken)
 
 any-within-requires : tie.Need-any-within-requires
 any-within-requires c κs =
-    let at-check-lent = c .before .before in
-    let start = at-check-lent .before .before .before .before in
-    let p = lent-passed (start .args .reg .now) (start .args .nodes .now) (start .args .bin .now) (ap isRefused (sym (at-check-lent .check-lent .ensures)) ∙ sym (c .before .refused .ensures) ∙ c .if1 .left) in (lent-sound _ _ (p .both), lent-good _ _ _ p)
+    let start : tie.Start = search in
+    let p = lent-passed (start .args .reg .now) (start .args .nodes .now) (start .args .bin .now)
+    (ap isRefused (sym (c .before .before .check-lent .ensures)) ∙ sym (c .before .refused .ensures) ∙ c .if1 .left) in
+    (lent-sound _ _ (p .both), lent-good _ _ _ p)
 
 wide16-requires : tie.Need-wide16-requires
 wide16-requires c κs = search needs
 
 returns-2 : tie.Need-returns-2
 returns-2 c =
-    let at-if1 = c .before .before in
-    let at-refused = at-if1 .before in
-    let at-check-lent = at-refused .before in
-    let start = at-check-lent .before .before .before .before in
-    any-done (start .args .reg .now) (start .args .nodes .now) (start .args .bin .now) _ (at-check-lent .check-lent .ensures) isWithin _ (sym (at-refused .refused .ensures) ∙ at-if1 .if1 .left) (c .wide16 .ensures .0 ∙ c .before .any-within .ensures)
+    let at-refused : tie.After-refused = search in
+    let at-check-lent : tie.After-check-lent = search in
+    let start : tie.Start = search in
+    any-done (start .args .reg .now) (start .args .nodes .now) (start .args .bin .now) _ (at-check-lent .check-lent .ensures)
+    isWithin _ (sym (at-refused .refused .ensures) ∙ c .before .before .if1 .left)
+    (c .wide16 .ensures .0 ∙ c .before .any-within .ensures)
 
 pub any-within-spec : {M : Type 1} → statement M
 any-within-spec =

@@ -24,9 +24,9 @@ same-length-2 c = search needs
 
 returns : tie.Need-returns
 returns c =
-    let at-check-lengths = c .before .before in
-    let start = at-check-lengths .before .before .before .before .before in
-    empty-refused (start .args .reg .now) (start .args .nodes .now) _ (at-check-lengths .check-lengths .ensures) (sym (c .before .refused .ensures) ∙ c .if1 .taken)
+    let start : tie.Start = search in
+    empty-refused (start .args .reg .now) (start .args .nodes .now) _ (c .before .before .check-lengths .ensures)
+    (sym (c .before .refused .ensures) ∙ c .if1 .taken)
 
 clear-requires : tie.Need-clear-requires
 clear-requires c κs = search needs
@@ -42,13 +42,13 @@ same-length-4 c = search needs
 
 returns-2 : tie.Need-returns-2
 returns-2 c =
-    let at-clear-nodes = c .before .before in
-    let at-clear = at-clear-nodes .before .before .before .before in
-    let at-if1 = at-clear .before .before in
-    let at-refused = at-if1 .before in
-    let at-check-lengths = at-refused .before in
-    let start = at-check-lengths .before .before .before .before .before in
-    empty-done (start .args .reg .now) (start .args .nodes .now) _ _ _ (at-check-lengths .check-lengths .ensures) (sym (at-refused .refused .ensures) ∙ at-if1 .if1 .left) (at-clear .clear .ensures) (at-clear-nodes .clear-nodes .ensures)
+    let at-clear : tie.After-clear = search in
+    let else1 : tie.Else1 = search in
+    let at-refused : tie.After-refused = search in
+    let at-check-lengths : tie.After-check-lengths = search in
+    let start : tie.Start = search in
+    empty-done (start .args .reg .now) (start .args .nodes .now) _ _ _ (at-check-lengths .check-lengths .ensures)
+    (sym (at-refused .refused .ensures) ∙ else1 .if1 .left) (at-clear .clear .ensures) (c .before .before .clear-nodes .ensures)
 
 pub empty-spec : {M : Type 1} → statement M
 empty-spec =

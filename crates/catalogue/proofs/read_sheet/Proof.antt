@@ -26,17 +26,18 @@ same-length-2 c = search needs
 
 returns : tie.Need-returns
 returns c =
-    let at-check-lengths = c .before .before in
-    let start = at-check-lengths .before .before .before .before .before .before in
-    read-refused (start .args .reg .now) (start .args .nodes .now) (start .args .s .now) _ (at-check-lengths .check-lengths .ensures) (sym (c .before .refused .ensures) ∙ c .if1 .taken)
+    let start : tie.Start = search in
+    read-refused (start .args .reg .now) (start .args .nodes .now) (start .args .s .now) _
+    (c .before .before .check-lengths .ensures) (sym (c .before .refused .ensures) ∙ c .if1 .taken)
 
 read-sheet-requires : tie.Need-read-sheet-requires
 read-sheet-requires c κs =
-    let at-if1 = c .before .before in
-    let at-refused = at-if1 .before in
-    let at-check-lengths = at-refused .before in
-    let start = at-check-lengths .before .before .before .before .before .before in
-    let p = lengths-passed (start .args .reg .now) (start .args .nodes .now) (ap isRefused (sym (at-check-lengths .check-lengths .ensures)) ∙ sym (at-refused .refused .ensures) ∙ at-if1 .if1 .left) in (p .0, p .1)
+    let at-refused : tie.After-refused = search in
+    let at-check-lengths : tie.After-check-lengths = search in
+    let start : tie.Start = search in
+    let p = lengths-passed (start .args .reg .now) (start .args .nodes .now)
+    (ap isRefused (sym (at-check-lengths .check-lengths .ensures)) ∙ sym (at-refused .refused .ensures)
+    ∙ c .before .before .if1 .left) in (p .0, p .1)
 
 read-answer-requires : tie.Need-read-answer-requires
 read-answer-requires c κs = search needs
@@ -49,12 +50,13 @@ same-length-4 c = search needs
 
 returns-2 : tie.Need-returns-2
 returns-2 c =
-    let at-read-sheet = c .before .before .before .before .before in
-    let at-if1 = at-read-sheet .before .before .before in
-    let at-refused = at-if1 .before in
-    let at-check-lengths = at-refused .before in
-    let start = at-check-lengths .before .before .before .before .before .before in
-    read-done (start .args .reg .now) (start .args .nodes .now) (start .args .s .now) _ (at-check-lengths .check-lengths .ensures) _ _ _ (sym (at-refused .refused .ensures) ∙ at-if1 .if1 .left) (c .read-answer .ensures) (at-read-sheet .read-sheet .ensures)
+    let at-read-sheet : tie.After-read-sheet = search in
+    let else1 : tie.Else1 = search in
+    let at-refused : tie.After-refused = search in
+    let at-check-lengths : tie.After-check-lengths = search in
+    let start : tie.Start = search in
+    read-done (start .args .reg .now) (start .args .nodes .now) (start .args .s .now) _ (at-check-lengths .check-lengths .ensures)
+    _ _ _ (sym (at-refused .refused .ensures) ∙ else1 .if1 .left) (c .read-answer .ensures) (at-read-sheet .read-sheet .ensures)
 
 pub read-sheet-spec : {M : Type 1} → statement M
 read-sheet-spec =

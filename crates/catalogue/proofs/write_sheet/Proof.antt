@@ -20,15 +20,16 @@ refused-requires c κs = search needs
 
 returns : tie.Need-returns
 returns c =
-    let at-check-tables = c .before .before in
-    let start = at-check-tables .before .before .before .before in
-    write-refused (start .args .reg .now) (start .args .nodes .now) (start .args .out .now) _ (at-check-tables .check-tables .ensures) (sym (c .before .refused .ensures) ∙ c .if1 .taken)
+    let start : tie.Start = search in
+    write-refused (start .args .reg .now) (start .args .nodes .now) (start .args .out .now) _
+    (c .before .before .check-tables .ensures) (sym (c .before .refused .ensures) ∙ c .if1 .taken)
 
 write-sheet-requires : tie.Need-write-sheet-requires
 write-sheet-requires c κs =
-    let at-refused = c .before .before in
-    let at-check-tables = at-refused .before in
-    let p = both-passed _ _ (ap isRefused (sym (at-check-tables .check-tables .ensures)) ∙ sym (at-refused .refused .ensures) ∙ c .before .if1 .left) in (p .ready, lent-sound _ _ p)
+    let at-check-tables : tie.After-check-tables = search in
+    let p = both-passed _ _
+    (ap isRefused (sym (at-check-tables .check-tables .ensures)) ∙ sym (c .before .before .refused .ensures)
+    ∙ c .before .if1 .left) in (p .ready, lent-sound _ _ p)
 
 written-answer-requires : tie.Need-written-answer-requires
 written-answer-requires c κs = search needs
@@ -38,12 +39,14 @@ same-length c = search needs
 
 returns-2 : tie.Need-returns-2
 returns-2 c =
-    let at-write-sheet = c .before .before .before in
-    let at-if1 = at-write-sheet .before .before in
-    let at-refused = at-if1 .before in
-    let at-check-tables = at-refused .before in
-    let start = at-check-tables .before .before .before .before in
-    write-done (start .args .reg .now) (start .args .nodes .now) (start .args .out .now) _ _ _ _ (at-check-tables .check-tables .ensures) (sym (at-refused .refused .ensures) ∙ at-if1 .if1 .left) (c .written-answer .ensures) (at-write-sheet .write-sheet .ensures)
+    let at-write-sheet : tie.After-write-sheet = search in
+    let else1 : tie.Else1 = search in
+    let at-refused : tie.After-refused = search in
+    let at-check-tables : tie.After-check-tables = search in
+    let start : tie.Start = search in
+    write-done (start .args .reg .now) (start .args .nodes .now) (start .args .out .now) _ _ _ _
+    (at-check-tables .check-tables .ensures) (sym (at-refused .refused .ensures) ∙ else1 .if1 .left) (c .written-answer .ensures)
+    (at-write-sheet .write-sheet .ensures)
 
 pub write-sheet-spec : {M : Type 1} → statement M
 write-sheet-spec =

@@ -48,7 +48,11 @@ slice-aggregate-serve-7 c = search needs
 serve-requires : tie.Need-serve-requires
 serve-requires c κs = (
   keeps-none _ (c .before .before .before .before .before .before .before .before .line-room .ensures),
-  record { ready = c .before .before .before .before .before .before .before .before .before .before .before .before .before .empty-register .ensures .1; room = room-enough _ _ _ (c .before .before .before .before .before .before .before .before .before .before .before .output-places .ensures) (c .before .before .before .before .before .before .before .before .before .before .sheet-room .ensures) (c .before .before .before .before .before .before .before .before .before .reply-room .ensures) },
+  record {
+    ready =
+        c .before .before .before .before .before .before .before .before .before .before .before .before .before .empty-register .ensures .1;
+    room = room-enough _ _ _ (c .before .before .before .before .before .before .before .before .before .before .before .output-places .ensures) (c .before .before .before .before .before .before .before .before .before .before .sheet-room .ensures) (c .before .before .before .before .before .before .before .before .before .reply-room .ensures);
+  },
 )
 
 returns : tie.Need-returns

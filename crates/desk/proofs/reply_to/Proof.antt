@@ -10,10 +10,17 @@ answer-line-requires : tie.Need-answer-line-requires
 answer-line-requires c κs = search needs
 
 slice-reshare-prefix-write-all : tie.Need-slice-reshare-prefix-write-all
-slice-reshare-prefix-write-all c = reply-inside _ _ _ _ _ (c .before .before .before .before .before .before .before .before .before .before .answer-line .ensures .0) (c .before .before .before .before .before .before .before .before .before .before .answer-line .kept .1 .1 .1 .1 .1 .0)
+slice-reshare-prefix-write-all c =
+    reply-inside _ _ _ _ _
+    (c .before .before .before .before .before .before .before .before .before .before .answer-line .ensures .0)
+    (c .before .before .before .before .before .before .before .before .before .before .answer-line .kept .1 .1 .1 .1 .1 .0)
 
 slice-aggregate-write-all : tie.Need-slice-aggregate-write-all
-slice-aggregate-write-all c = sym (length-take-le _ _ (reply-inside _ _ _ _ _ (c .before .before .before .before .before .before .before .before .before .before .before .answer-line .ensures .0) (c .before .before .before .before .before .before .before .before .before .before .before .answer-line .kept .1 .1 .1 .1 .1 .0)))
+slice-aggregate-write-all c =
+    sym (length-take-le _ _
+    (reply-inside _ _ _ _ _
+    (c .before .before .before .before .before .before .before .before .before .before .before .answer-line .ensures .0)
+    (c .before .before .before .before .before .before .before .before .before .before .before .answer-line .kept .1 .1 .1 .1 .1 .0)))
 
 write-all-requires : tie.Need-write-all-requires
 write-all-requires c κs = search needs
@@ -34,10 +41,16 @@ same-length-5 : tie.Need-same-length-5
 same-length-5 c = search needs
 
 returns : tie.Need-returns
-returns c = let k = c .before .before .before .before .before .before .before .before .before .before .before .before .answer-line .kept in (
-  record { ready = c .before .before .before .before .before .before .before .before .before .before .before .before .answer-line .ensures .1 .0; room = room-kept _ _ _ _ _ _ (c .before .before .before .before .before .before .before .before .before .before .before .before .before .before .before .before .before .before .before .before .before .before .before .before .pre .room) (k .1 .1 .1 .0) (k .1 .1 .1 .1 .0) (k .1 .1 .1 .1 .1 .0) },
-  c .before .before .before .before .before .before .before .before .before .before .before .before .answer-line .ensures .0 .left ∙ left-by _ _ _ _,
-)
+returns c =
+    let k = c .before .before .before .before .before .before .before .before .before .before .before .before .answer-line .kept in (
+      record {
+        ready =
+            c .before .before .before .before .before .before .before .before .before .before .before .before .answer-line .ensures .1 .0;
+        room = room-kept _ _ _ _ _ _ (c .before .before .before .before .before .before .before .before .before .before .before .before .before .before .before .before .before .before .before .before .before .before .before .before .pre .room) (k .1 .1 .1 .0) (k .1 .1 .1 .1 .0) (k .1 .1 .1 .1 .1 .0);
+      },
+      c .before .before .before .before .before .before .before .before .before .before .before .before .answer-line .ensures .0 .left
+          ∙ left-by _ _ _ _,
+    )
 
 pub reply-to-spec : {M : Type 1} → statement M
 reply-to-spec =

@@ -22,7 +22,14 @@ abbrev μ-loop : tie.MeasureT-loop
     turns
 
 loop-holds : tie.Need-loop-holds Inv-loop μ-loop
-loop-holds c = (c .before .before .before .before .before .before .before .pre .0, c .before .before .before .before .before .before .before .pre .1, none-read _ _, same-start _ _ _ _ _, refl, refl)
+loop-holds c = (
+  c .before .before .before .before .before .before .before .pre .0,
+  c .before .before .before .before .before .before .before .pre .1,
+  none-read _ _,
+  same-start _ _ _ _ _,
+  refl,
+  refl,
+)
 
 read-requires : tie.Need-read-requires Inv-loop μ-loop
 read-requires c κs = search needs
@@ -37,7 +44,8 @@ slice-aggregate-take-piece : tie.Need-slice-aggregate-take-piece Inv-loop μ-loo
 slice-aggregate-take-piece c = search needs
 
 take-piece-requires : tie.Need-take-piece-requires Inv-loop μ-loop
-take-piece-requires c κs = (c .before .before .before .before .before .before .before .before .before .before .before .before .before .before .loop .inv .0, c .before .before .before .before .before .before .before .before .before .before .before .before .before .before .loop .inv .1)
+take-piece-requires c κs =
+    (c .before .before .before .before .before .before .before .before .before .before .before .before .before .before .loop .inv .0, c .before .before .before .before .before .before .before .before .before .before .before .before .before .before .loop .inv .1)
 
 turns-left-requires : tie.Need-turns-left-requires Inv-loop μ-loop
 turns-left-requires c κs = search needs
@@ -46,13 +54,23 @@ loop-less : tie.Need-loop-less Inv-loop μ-loop
 loop-less c = search needs
 
 loop-again : tie.Need-loop-again Inv-loop μ-loop
-loop-again c = let i = c .before .before .before .before .before .before .before .before .before .before .before .before .before .before .before .before .before .before .before .before .before .before .before .before .before .before .before .before .loop .inv in
+loop-again c =
+    let i = c .before .before .before .before .before .before .before .before .before .before .before .before .before .before .before .before .before .before .before .before .before .before .before .before .before .before .before .before .loop .inv in
     let k = c .before .before .before .before .before .before .before .before .before .before .before .before .before .take-piece .kept in
     let m = i .3 in (
       c .before .before .before .before .before .before .before .before .before .before .before .before .before .take-piece .ensures .0 .keeps,
       c .before .before .before .before .before .before .before .before .before .before .before .before .before .take-piece .ensures .1,
-      more-read (i .2) _ _ _ _ (c .before .before .before .before .before .before .before .before .before .before .before .before .before .take-piece .ensures .0),
-      record { register = k .1 .1 .1 .0 ∙ m .register; nodes = k .1 .1 .1 .1 .0 ∙ m .nodes; places = k .1 .1 .1 .1 .1 .0 ∙ m .places; sheet = k .1 .1 .1 .1 .1 .1 .0 ∙ m .sheet; out = k .1 .1 .1 .1 .1 .1 .1 .0 ∙ m .out },
+      more-read (i .2) _ _ _ _
+          (c .before .before .before .before .before .before .before .before .before .before .before .before .before .take-piece .ensures .0),
+      record {
+        register =
+            k .1 .1 .1 .0 ∙ m .register;
+        nodes = k .1 .1 .1 .1 .0 ∙ m .nodes;
+        places = k .1 .1 .1 .1 .1 .0 ∙ m .places;
+        sheet =
+            k .1 .1 .1 .1 .1 .1 .0 ∙ m .sheet;
+        out = k .1 .1 .1 .1 .1 .1 .1 .0 ∙ m .out;
+      },
       k .1 .0 ∙ i .4,
       c .before .before .before .before .before .before .before .before .before .before .before .before .before .before .before .before .before .before .before .before .before .before .before .before .before .read .kept .1 .0 ∙ i .5,
     )
@@ -112,7 +130,8 @@ same-length-14 : tie.Need-same-length-14 Inv-loop μ-loop
 same-length-14 c = search needs
 
 returns-2 : tie.Need-returns-2 Inv-loop μ-loop
-returns-2 c = line-left (c .before .before .before .before .before .before .before .before .before .before .before .before .before .before .before .before .before .before .before .loop .inv .2) _ (c .before .before .before .before .before .before .before .before .before .before .before .before .before .before .before .before .before .if1 .left) (c .before .before .before .before .before .before .before .before .before .before .before .before .before .before .before .before .before .before .before .loop .inv .0 .inside) (c .before .before .before .before .before .before .before .before .before .before .reply-to .ensures .1)
+returns-2 c =
+    line-left (c .before .before .before .before .before .before .before .before .before .before .before .before .before .before .before .before .before .before .before .loop .inv .2) _ (c .before .before .before .before .before .before .before .before .before .before .before .before .before .before .before .before .before .if1 .left) (c .before .before .before .before .before .before .before .before .before .before .before .before .before .before .before .before .before .before .before .loop .inv .0 .inside) (c .before .before .before .before .before .before .before .before .before .before .reply-to .ensures .1)
 
 pub serve-spec : {M : Type 1} → statement M
 serve-spec =

@@ -20,7 +20,11 @@ abbrev μ-loop : tie.MeasureT-loop
     length piece - at
 
 loop-holds : tie.Need-loop-holds Inv-loop μ-loop
-loop-holds c = (starts _ _ _ _ _ _ _ (c .before .before .before .before .before .before .before .pre .0) (c .before .before .before .before .before .before .before .pre .1), same-start _ _ _ _ _)
+loop-holds c = (
+  starts _ _ _ _ _ _ _ (c .before .before .before .before .before .before .before .pre .0)
+      (c .before .before .before .before .before .before .before .pre .1),
+  same-start _ _ _ _ _,
+)
 
 end-of-requires : tie.Need-end-of-requires Inv-loop μ-loop
 end-of-requires c κs = search needs
@@ -56,16 +60,27 @@ same-length-6 : tie.Need-same-length-6 Inv-loop μ-loop
 same-length-6 c = search needs
 
 returns : tie.Need-returns Inv-loop μ-loop
-returns c = (line-goes-on (c .before .before .before .before .before .before .before .before .loop .inv .0) _ _ _ (c .before .before .before .before .before .before .end-of .ensures) (c .before .before .before .keep-more .ensures) (c .if1 .taken), c .before .before .before .before .before .before .before .before .loop .inv .0 .hand)
+returns c = (
+  line-goes-on (c .before .before .before .before .before .before .before .before .loop .inv .0) _ _ _
+      (c .before .before .before .before .before .before .end-of .ensures) (c .before .before .before .keep-more .ensures)
+      (c .if1 .taken),
+  c .before .before .before .before .before .before .before .before .loop .inv .0 .hand,
+)
 
 slice-reshare-prefix-reply-to : tie.Need-slice-reshare-prefix-reply-to Inv-loop μ-loop
-slice-reshare-prefix-reply-to c = kept-inside _ _ _ _ _ (c .before .before .before .before .before .before .before .before .loop .inv .0 .keeps) (c .before .before .before .keep-more .ensures)
+slice-reshare-prefix-reply-to c =
+    kept-inside _ _ _ _ _ (c .before .before .before .before .before .before .before .before .loop .inv .0 .keeps)
+    (c .before .before .before .keep-more .ensures)
 
 slice-aggregate-reply-to : tie.Need-slice-aggregate-reply-to Inv-loop μ-loop
-slice-aggregate-reply-to c = sym (length-take-le _ _ (kept-inside _ _ _ _ _ (c .before .before .before .before .before .before .before .before .before .loop .inv .0 .keeps) (c .before .before .before .before .keep-more .ensures)))
+slice-aggregate-reply-to c =
+    sym (length-take-le _ _
+    (kept-inside _ _ _ _ _ (c .before .before .before .before .before .before .before .before .before .loop .inv .0 .keeps)
+    (c .before .before .before .before .keep-more .ensures)))
 
 reply-to-requires : tie.Need-reply-to-requires Inv-loop μ-loop
-reply-to-requires c κs = c .before .before .before .before .before .before .before .before .before .before .before .before .before .before .loop .inv .0 .hand
+reply-to-requires c κs =
+    c .before .before .before .before .before .before .before .before .before .before .before .before .before .before .loop .inv .0 .hand
 
 add-at : tie.Need-add-at Inv-loop μ-loop
 add-at c = search needs
@@ -78,7 +93,15 @@ loop-again c = let k = c .before .before .before .before .before .before .before
     let m = c .before .before .before .before .before .before .before .before .before .before .before .before .before .before .before .before .before .before .before .before .before .before .before .before .before .loop .inv .1 in
     let h : c .before .before .before .before .before .before .before .before .before .before .before .before .before .before .before .before .before .before .before .before .before .before .before .end-of .result < length (c .before .before .before .before .before .before .before .before .before .before .before .before .before .before .before .before .before .before .before .before .before .before .before .before .before .before .before .before .before .before .before .before .before .args .piece .now) = omega (arith, c .before .before .before .before .before .before .before .before .before .before .before .before .before .before .before .before .before .before .before .before .before .before .before .end-of .ensures .high, c .before .before .before .before .before .before .before .before .before .before .before .before .before .before .before .before .before .if1 .left) in (
       line-ends (c .before .before .before .before .before .before .before .before .before .before .before .before .before .before .before .before .before .before .before .before .before .before .before .before .before .loop .inv .0) _ _ _ (c .before .before .before .before .before .before .before .before .before .before .before .before .before .before .before .before .before .before .before .before .before .before .before .end-of .ensures) (c .before .before .before .before .before .before .before .before .before .before .before .before .before .before .before .before .before .before .before .before .keep-more .ensures) _ _ _ _ h (c .before .before .before .before .before .before .before .before .before .before .reply-to .ensures .0) (c .before .before .before .before .before .before .before .before .before .before .reply-to .ensures .1),
-      record { register = k .1 .0 ∙ m .register; nodes = k .1 .1 .0 ∙ m .nodes; places = k .1 .1 .1 .0 ∙ m .places; sheet = k .1 .1 .1 .1 .0 ∙ m .sheet; out = k .1 .1 .1 .1 .1 .0 ∙ m .out },
+      record {
+        register =
+            k .1 .0 ∙ m .register;
+        nodes = k .1 .1 .0 ∙ m .nodes;
+        places = k .1 .1 .1 .0 ∙ m .places;
+        sheet = k .1 .1 .1 .1 .0
+            ∙ m .sheet;
+        out = k .1 .1 .1 .1 .1 .0 ∙ m .out;
+      },
     )
 
 same-length-7 : tie.Need-same-length-7 Inv-loop μ-loop

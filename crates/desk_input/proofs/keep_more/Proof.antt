@@ -10,16 +10,25 @@ sub-room : tie.Need-sub-room
 sub-room c = search needs
 
 slice-aggregate-copy-in : tie.Need-slice-aggregate-copy-in
-slice-aggregate-copy-in c = sym (room-length (c .before .before .before .before .before .args .kept .now) (c .before .before .before .before .before .args .n) (c .before .before .before .before .before .args .bytes .now) (c .before .before .if1 .taken))
+slice-aggregate-copy-in c =
+    let start : tie.Start = search in
+    sym (room-length (start .args .kept .now) (start .args .n) (start .args .bytes .now) (c .before .before .if1 .taken))
 
 copy-in-requires : tie.Need-copy-in-requires
-copy-in-requires c κs = omega (arith, room-length (c .before .before .before .before .before .args .kept .now) (c .before .before .before .before .before .args .n) (c .before .before .before .before .before .args .bytes .now) (c .before .before .if1 .taken))
+copy-in-requires c κs =
+    let start : tie.Start = search in
+    omega (arith, room-length (start .args .kept .now) (start .args .n) (start .args .bytes .now) (c .before .before .if1 .taken))
 
 same-length : tie.Need-same-length
 same-length c = search needs
 
 returns : tie.Need-returns
-returns c = kept-full (c .before .before .before .before .before .before .before .before .args .kept .now) (c .before .before .before .before .before .before .before .before .args .n) (c .before .before .before .before .before .before .before .before .args .bytes .now) (c .before .before .copy-in .last .0) (c .before .before .before .before .before .before .before .before .pre) (c .before .before .before .before .before .if1 .taken) (c .before .before .copy-in .ensures)
+returns c =
+    let at-copy-in : tie.After-copy-in = search in
+    let then1 : tie.Then1 = search in
+    let start : tie.Start = search in
+    kept-full (start .args .kept .now) (start .args .n) (start .args .bytes .now) (at-copy-in .copy-in .last .0) (start .pre)
+    (then1 .if1 .taken) (at-copy-in .copy-in .ensures)
 
 copy-in-requires-2 : tie.Need-copy-in-requires-2
 copy-in-requires-2 c κs = search needs
@@ -31,7 +40,12 @@ same-length-2 : tie.Need-same-length-2
 same-length-2 c = search needs
 
 returns-2 : tie.Need-returns-2
-returns-2 c = kept-all (c .before .before .before .before .before .before .before .args .kept .now) (c .before .before .before .before .before .before .before .args .n) (c .before .before .before .before .before .before .before .args .bytes .now) (c .before .before .copy-in2 .last .0) (c .before .before .before .before .before .before .before .pre) (c .before .before .before .before .if1 .left) (c .before .before .copy-in2 .ensures)
+returns-2 c =
+    let at-copy-in2 : tie.After-copy-in2 = search in
+    let else1 : tie.Else1 = search in
+    let start : tie.Start = search in
+    kept-all (start .args .kept .now) (start .args .n) (start .args .bytes .now) (at-copy-in2 .copy-in2 .last .0) (start .pre)
+    (else1 .if1 .left) (at-copy-in2 .copy-in2 .ensures)
 
 pub keep-more-spec : {M : Type 1} → statement M
 keep-more-spec =

@@ -21,14 +21,32 @@ same-length c = search needs
 returns : tie.Need-returns
 returns c = let a = c .before .before .before .before .before .before .before .before .before .before .before .before .args in
     let t = tables (a .reg .now) (a .nodes .now) in
-    let g = sym (c .before .before .before .before .before .good-line .ensures) ∙ not-true _ (c .before .before .before .before .if1 .taken) in
-    (other-answers (a .line .now) (a .places .now) (a .sheet .now) t t g (c .before .before .put-other .ensures), (c .before .before .before .before .before .before .before .before .before .before .before .before .pre .0, other-outputs (a .line .now) (a .places .now) (a .sheet .now) t g))
+    let g = sym (c .before .before .before .before .before .good-line .ensures) ∙ not-true _
+    (c .before .before .before .before .if1 .taken) in (
+      other-answers (a .line .now) (a .places .now) (a .sheet .now) t t g (c .before .before .put-other .ensures),
+      (
+        c .before .before .before .before .before .before .before .before .before .before .before .before .pre .0,
+        other-outputs
+            (a .line .now) (a .places .now) (a .sheet .now) t g,
+      ),
+    )
 
 shared-slice-read-letter : tie.Need-shared-slice-read-letter
 shared-slice-read-letter c = line-some _ (sym (c .before .before .good-line .ensures) ∙ not-false _ (c .before .if1 .left))
 
 register-line-requires : tie.Need-register-line-requires
-register-line-requires c κs = (record { good = sym (c .before .before .before .before .before .before .good-line .ensures) ∙ not-false _ (c .before .before .before .before .before .if1 .left); letter = c .before .before .before .if2 .taken }, (c .before .before .before .before .before .before .before .before .before .before .before .before .before .pre .0, omega (arith, c .before .before .before .before .before .before .before .before .before .before .before .before .before .pre .1 .written)))
+register-line-requires c κs = (
+  record {
+    good = sym (c .before .before .before .before .before .before .good-line .ensures) ∙ not-false _
+        (c .before .before .before .before .before .if1 .left);
+    letter = c .before .before .before .if2 .taken;
+  },
+  (
+    c .before .before .before .before .before .before .before .before .before .before .before .before .before .pre .0,
+    omega
+        (arith, c .before .before .before .before .before .before .before .before .before .before .before .before .before .pre .1 .written),
+  ),
+)
 
 same-length-2 : tie.Need-same-length-2
 same-length-2 c = search needs
@@ -40,14 +58,33 @@ same-length-4 : tie.Need-same-length-4
 same-length-4 c = search needs
 
 returns-2 : tie.Need-returns-2
-returns-2 c = let a = c .before .before .before .before .before .before .before .before .before .before .before .before .before .before .before .before .before .before .args in
+returns-2 c =
+    let a = c .before .before .before .before .before .before .before .before .before .before .before .before .before .before .before .before .before .before .args in
     let t = tables (a .reg .now) (a .nodes .now) in
-    let g = sym (c .before .before .before .before .before .before .before .before .before .before .before .good-line .ensures) ∙ not-false _ (c .before .before .before .before .before .before .before .before .before .before .if1 .left) in
-    let e = c .before .before .before .before .before .before .before .before .if2 .taken in
-    (register-answers (a .line .now) (a .places .now) (a .sheet .now) t _ g e (c .before .before .before .before .register-line .ensures .0), (c .before .before .before .before .register-line .ensures .1, register-outputs (a .line .now) (a .places .now) (a .sheet .now) t g e))
+    let g = sym (c .before .before .before .before .before .before .before .before .before .before .before .good-line .ensures)
+    ∙ not-false _ (c .before .before .before .before .before .before .before .before .before .before .if1 .left) in
+    let e = c .before .before .before .before .before .before .before .before .if2 .taken in (
+      register-answers (a .line .now) (a .places .now) (a .sheet .now) t _ g e
+          (c .before .before .before .before .register-line .ensures .0),
+      (
+        c .before .before .before .before .register-line .ensures .1,
+        register-outputs (a .line .now) (a .places .now)
+            (a .sheet .now) t g e,
+      ),
+    )
 
 insert-line-requires : tie.Need-insert-line-requires
-insert-line-requires c κs = (record { good = sym (c .before .before .before .before .before .before .before .good-line .ensures) ∙ not-false _ (c .before .before .before .before .before .before .if1 .left); letter = c .before .before .before .if3 .taken }, (c .before .before .before .before .before .before .before .before .before .before .before .before .before .before .pre .0, omega (arith, c .before .before .before .before .before .before .before .before .before .before .before .before .before .before .pre .1 .written)))
+insert-line-requires c κs = (
+  record {
+    good = sym (c .before .before .before .before .before .before .before .good-line .ensures) ∙ not-false _
+        (c .before .before .before .before .before .before .if1 .left);
+    letter = c .before .before .before .if3 .taken;
+  },
+  (
+    c .before .before .before .before .before .before .before .before .before .before .before .before .before .before .pre .0,
+    omega (arith, c .before .before .before .before .before .before .before .before .before .before .before .before .before .before .pre .1 .written),
+  ),
+)
 
 same-length-5 : tie.Need-same-length-5
 same-length-5 c = search needs
@@ -59,12 +96,16 @@ same-length-7 : tie.Need-same-length-7
 same-length-7 c = search needs
 
 returns-3 : tie.Need-returns-3
-returns-3 c = let a = c .before .before .before .before .before .before .before .before .before .before .before .before .before .before .before .before .before .before .before .args in
+returns-3 c =
+    let a = c .before .before .before .before .before .before .before .before .before .before .before .before .before .before .before .before .before .before .before .args in
     let t = tables (a .reg .now) (a .nodes .now) in
     let g = sym (c .before .before .before .before .before .before .before .before .before .before .before .before .good-line .ensures) ∙ not-false _ (c .before .before .before .before .before .before .before .before .before .before .before .if1 .left) in
     let n1 = c .before .before .before .before .before .before .before .before .before .if2 .left in
-    let e = c .before .before .before .before .before .before .before .before .if3 .taken in
-    (insert-answers (a .line .now) (a .places .now) (a .sheet .now) t _ g n1 e (c .before .before .before .before .insert-line .ensures), (c .before .before .before .before .before .before .before .before .before .before .before .before .before .before .before .before .before .before .before .pre .0, insert-outputs (a .line .now) (a .places .now) (a .sheet .now) t g n1 e))
+    let e = c .before .before .before .before .before .before .before .before .if3 .taken in (
+      insert-answers (a .line .now) (a .places .now) (a .sheet .now) t _ g n1 e
+          (c .before .before .before .before .insert-line .ensures),
+      (c .before .before .before .before .before .before .before .before .before .before .before .before .before .before .before .before .before .before .before .pre .0, insert-outputs (a .line .now) (a .places .now) (a .sheet .now) t g n1 e),
+    )
 
 write-line-requires : tie.Need-write-line-requires
 write-line-requires c κs = search needs
@@ -82,16 +123,22 @@ same-length-11 : tie.Need-same-length-11
 same-length-11 c = search needs
 
 returns-4 : tie.Need-returns-4
-returns-4 c = let a = c .before .before .before .before .before .before .before .before .before .before .before .before .before .before .before .before .before .before .before .before .before .args in
+returns-4 c =
+    let a = c .before .before .before .before .before .before .before .before .before .before .before .before .before .before .before .before .before .before .before .before .before .args in
     let t = tables (a .reg .now) (a .nodes .now) in
     let g = sym (c .before .before .before .before .before .before .before .before .before .before .before .before .before .before .good-line .ensures) ∙ not-false _ (c .before .before .before .before .before .before .before .before .before .before .before .before .before .if1 .left) in
     let n1 = c .before .before .before .before .before .before .before .before .before .before .before .if2 .left in
     let n2 = c .before .before .before .before .before .before .before .before .before .before .if3 .left in
-    let e = c .before .before .before .before .before .before .before .before .before .if4 .taken in
-    (write-answers (a .line .now) (a .places .now) (a .sheet .now) t t g n1 n2 e (c .before .before .before .before .write-line .ensures .0), (c .before .before .before .before .before .before .before .before .before .before .before .before .before .before .before .before .before .before .before .before .before .pre .0, write-outputs (a .line .now) (a .places .now) (a .sheet .now) t g n1 n2 _ e (c .before .before .before .before .write-line .ensures .1)))
+    let e = c .before .before .before .before .before .before .before .before .before .if4 .taken in (
+      write-answers (a .line .now) (a .places .now) (a .sheet .now) t t g n1 n2 e
+          (c .before .before .before .before .write-line .ensures .0),
+      (c .before .before .before .before .before .before .before .before .before .before .before .before .before .before .before .before .before .before .before .before .before .pre .0, write-outputs (a .line .now) (a .places .now) (a .sheet .now) t g n1 n2 _ e (c .before .before .before .before .write-line .ensures .1)),
+    )
 
 ask-line-requires : tie.Need-ask-line-requires
-ask-line-requires c κs = let g = sym (c .before .before .before .before .before .before .before .before .before .good-line .ensures) ∙ not-false _ (c .before .before .before .before .before .before .before .before .if1 .left) in
+ask-line-requires c κs =
+    let g = sym (c .before .before .before .before .before .before .before .before .before .good-line .ensures) ∙ not-false _
+    (c .before .before .before .before .before .before .before .before .if1 .left) in
     (list-pairs (c .before .before .before .before .before .before .before .before .before .before .before .before .before .before .before .before .args .line .now) g (c .before .before .before .before .before .before .if2 .left) (c .before .before .before .before .before .if3 .left) (c .before .before .before .before .if4 .left), (g, (c .before .before .before .before .before .before .before .before .before .before .before .before .before .before .before .before .pre .0, c .before .before .before .before .before .before .before .before .before .before .before .before .before .before .before .before .pre .1 .listing)))
 
 same-length-12 : tie.Need-same-length-12
@@ -107,13 +154,17 @@ same-length-15 : tie.Need-same-length-15
 same-length-15 c = search needs
 
 returns-5 : tie.Need-returns-5
-returns-5 c = let a = c .before .before .before .before .before .before .before .before .before .before .before .before .before .before .before .before .before .before .before .before .before .before .before .args in
+returns-5 c =
+    let a = c .before .before .before .before .before .before .before .before .before .before .before .before .before .before .before .before .before .before .before .before .before .before .before .args in
     let t = tables (a .reg .now) (a .nodes .now) in
     let g = sym (c .before .before .before .before .before .before .before .before .before .before .before .before .before .before .before .before .good-line .ensures) ∙ not-false _ (c .before .before .before .before .before .before .before .before .before .before .before .before .before .before .before .if1 .left) in
     let n1 = c .before .before .before .before .before .before .before .before .before .before .before .before .before .if2 .left in
     let n2 = c .before .before .before .before .before .before .before .before .before .before .before .before .if3 .left in
-    let n3 = c .before .before .before .before .before .before .before .before .before .before .before .if4 .left in
-    (ask-answers (a .line .now) (a .places .now) (a .sheet .now) t _ g n1 n2 n3 (c .before .before .before .before .before .before .ask-line .ensures .0), (c .before .before .before .before .before .before .before .before .before .before .before .before .before .before .before .before .before .before .before .before .before .before .before .pre .0, ask-outputs (a .line .now) (a .places .now) (a .sheet .now) t g n1 n2 _ n3 (c .before .before .before .before .before .before .ask-line .ensures .1)))
+    let n3 = c .before .before .before .before .before .before .before .before .before .before .before .if4 .left in (
+      ask-answers (a .line .now) (a .places .now) (a .sheet .now) t _ g n1 n2 n3
+          (c .before .before .before .before .before .before .ask-line .ensures .0),
+      (c .before .before .before .before .before .before .before .before .before .before .before .before .before .before .before .before .before .before .before .before .before .before .before .pre .0, ask-outputs (a .line .now) (a .places .now) (a .sheet .now) t g n1 n2 _ n3 (c .before .before .before .before .before .before .ask-line .ensures .1)),
+    )
 
 pub answer-line-spec : {M : Type 1} → statement M
 answer-line-spec =

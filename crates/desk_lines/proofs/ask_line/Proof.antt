@@ -31,21 +31,30 @@ same-length : tie.Need-same-length
 same-length c = search needs
 
 returns : tie.Need-returns
-returns c = let a = c .before .before .before .before .before .before .before .before .before .before .before .before .before .before .before .args in
+returns c =
+    let a = c .before .before .before .before .before .before .before .before .before .before .before .before .before .before .before .args in
     let l = a .line .now in
     let t = tables (a .reg .now) (a .nodes .now) in
     let s = c .before .before .before .before .before .before .before .before .read-list .ensures .says in
-    let b = behind-letter l (c .before .before .before .before .before .before .before .before .before .before .before .before .before .before .before .pre .1 .0) in
+    let b = behind-letter l
+    (c .before .before .before .before .before .before .before .before .before .before .before .before .before .before .before .pre .1 .0) in
     let e = c .before .before .before .before .before .enum-told .given .1 in (
-      ask-stopped l t (c .before .before .before .before .before .before .before .before .read-list .result) _ (fieldsFrom l 2) s (a .letter) (a .places .now) b _ (c .before .before .before .stop-number .result) e (c .before .before .before .stop-number .ensures) (c .before .before .put-reply .ensures),
-      stop-leaves (a .letter) l (a .places .now) t (c .before .before .before .before .before .before .before .before .read-list .result) _ (fieldsFrom l 2) s b _ e,
+      ask-stopped l t (c .before .before .before .before .before .before .before .before .read-list .result) _ (fieldsFrom l 2) s
+          (a .letter) (a .places .now) b _ (c .before .before .before .stop-number .result) e
+          (c .before .before .before .stop-number .ensures) (c .before .before .put-reply .ensures),
+      stop-leaves (a .letter) l (a .places .now) t
+          (c .before .before .before .before .before .before .before .before .read-list .result) _ (fieldsFrom l 2) s b _ e,
     )
 
 array-share-prefix-list : tie.Need-array-share-prefix-list
-array-share-prefix-list c = words-inside _ _ _ (c .before .read .given .1) (c .before .before .before .before .read-list .ensures .inside)
+array-share-prefix-list c =
+    words-inside _ _ _ (c .before .read .given .1) (c .before .before .before .before .read-list .ensures .inside)
 
 slice-aggregate-ask : tie.Need-slice-aggregate-ask
-slice-aggregate-ask c = sym (length-take-le _ _ (words-inside _ _ _ (c .before .before .read .given .1) (c .before .before .before .before .before .read-list .ensures .inside)))
+slice-aggregate-ask c =
+    sym (length-take-le _ _
+    (words-inside _ _ _ (c .before .before .read .given .1)
+    (c .before .before .before .before .before .read-list .ensures .inside)))
 
 ask-requires : tie.Need-ask-requires
 ask-requires c κs = search needs
@@ -60,14 +69,17 @@ same-length-4 : tie.Need-same-length-4
 same-length-4 c = search needs
 
 returns-2 : tie.Need-returns-2
-returns-2 c = let a = c .before .before .before .before .before .before .before .before .before .before .before .before .before .before .before .before .before .before .before .before .before .before .args in
+returns-2 c =
+    let a = c .before .before .before .before .before .before .before .before .before .before .before .before .before .before .before .before .before .before .before .before .before .before .args in
     let l = a .line .now in
     let t = tables (a .reg .now) (a .nodes .now) in
     let s = c .before .before .before .before .before .before .before .before .before .before .before .before .before .before .before .read-list .ensures .says in
-    let b = behind-letter l (c .before .before .before .before .before .before .before .before .before .before .before .before .before .before .before .before .before .before .before .before .before .before .pre .1 .0) in
+    let b = behind-letter l
+    (c .before .before .before .before .before .before .before .before .before .before .before .before .before .before .before .before .before .before .before .before .before .before .pre .1 .0) in
     let e = c .before .before .before .before .before .before .before .before .before .before .before .before .read .given .1 in (
       ask-typed l t (c .before .before .before .before .before .before .before .before .before .before .before .before .before .before .before .read-list .result) _ (fieldsFrom l 2) s (a .letter) (a .places .now) b _ _ e (c .before .before .before .before .before .before .ask .ensures .0),
-      ask-lists (a .letter) l (a .places .now) t (c .before .before .before .before .before .before .before .before .before .before .before .before .before .before .before .read-list .result) _ (fieldsFrom l 2) s b _ _ e (c .before .before .before .before .before .before .ask .ensures .1),
+      ask-lists (a .letter) l (a .places .now) t
+          (c .before .before .before .before .before .before .before .before .before .before .before .before .before .before .before .read-list .result) _ (fieldsFrom l 2) s b _ _ e (c .before .before .before .before .before .before .ask .ensures .1),
     )
 
 pub ask-line-spec : {M : Type 1} → statement M

@@ -13,7 +13,8 @@ use Rattle.desk_lines.proofs.insert_line.Statement.{statement}
 use Rattle.desk_lines.proofs.insert_line.Tie as tie
 
 end-of-requires : tie.Need-end-of-requires
-end-of-requires c κs = tag-there _ (c .before .before .before .before .pre .0 .good) (c .before .before .before .before .pre .0 .letter)
+end-of-requires c κs =
+    tag-there _ (c .before .before .before .before .pre .0 .good) (c .before .before .before .before .pre .0 .letter)
 
 sub-read-amount : tie.Need-sub-read-amount
 sub-read-amount c = search needs
@@ -34,7 +35,12 @@ slice-aggregate-read-list : tie.Need-slice-aggregate-read-list
 slice-aggregate-read-list c = search needs
 
 read-list-requires : tie.Need-read-list-requires
-read-list-requires c κs = (kit-pairs _ (c .before .before .before .before .before .before .before .before .pre .0 .good) (c .before .before .before .before .before .before .before .before .pre .0 .letter) _ (c .before .before .before .end-of .ensures), (c .before .before .before .before .before .before .before .before .pre .1 .0, search needs))
+read-list-requires c κs = (
+  kit-pairs _ (c .before .before .before .before .before .before .before .before .pre .0 .good)
+      (c .before .before .before .before .before .before .before .before .pre .0 .letter) _
+      (c .before .before .before .end-of .ensures),
+  (c .before .before .before .before .before .before .before .before .pre .1 .0, search needs),
+)
 
 enum-known-read : tie.Need-enum-known-read
 enum-known-read c = search needs
@@ -52,17 +58,24 @@ same-length : tie.Need-same-length
 same-length c = search needs
 
 returns : tie.Need-returns
-returns c = let a = c .before .before .before .before .before .before .before .before .before .before .before .before .before .before .before .before .before .args in
+returns c =
+    let a = c .before .before .before .before .before .before .before .before .before .before .before .before .before .before .before .before .before .args in
     let l = a .line .now in
     let T = tables (a .reg .now) (a .nodes .now) in
-    insert-stopped l T (c .before .before .before .before .before .before .before .before .read-list .result) _ (fieldsFrom l (c .before .before .before .before .before .before .before .before .before .before .before .before .end-of .result + 1)) (c .before .before .before .before .before .before .before .before .read-list .ensures .says) (fieldAt l 2 (c .before .before .before .before .before .before .before .before .before .before .before .before .end-of .result)) (tag-first l (c .before .before .before .before .before .before .before .before .before .before .before .before .before .before .before .before .before .pre .0 .good) (c .before .before .before .before .before .before .before .before .before .before .before .before .before .before .before .before .before .pre .0 .letter) _ (c .before .before .before .before .before .before .before .before .before .before .before .before .end-of .ensures))
-    _ (c .before .before .before .stop-number .result) (c .before .before .before .before .before .enum-told .given .1) (c .before .before .before .stop-number .ensures) (c .before .before .put-reply .ensures)
+    insert-stopped l T (c .before .before .before .before .before .before .before .before .read-list .result) _
+    (fieldsFrom l (c .before .before .before .before .before .before .before .before .before .before .before .before .end-of .result + 1)) (c .before .before .before .before .before .before .before .before .read-list .ensures .says) (fieldAt l 2 (c .before .before .before .before .before .before .before .before .before .before .before .before .end-of .result)) (tag-first l (c .before .before .before .before .before .before .before .before .before .before .before .before .before .before .before .before .before .pre .0 .good) (c .before .before .before .before .before .before .before .before .before .before .before .before .before .before .before .before .before .pre .0 .letter) _ (c .before .before .before .before .before .before .before .before .before .before .before .before .end-of .ensures))
+    _ (c .before .before .before .stop-number .result) (c .before .before .before .before .before .enum-told .given .1)
+    (c .before .before .before .stop-number .ensures) (c .before .before .put-reply .ensures)
 
 array-share-prefix-list : tie.Need-array-share-prefix-list
-array-share-prefix-list c = words-inside _ _ _ (c .before .before .read .given .1) (c .before .before .before .before .before .read-list .ensures .inside)
+array-share-prefix-list c =
+    words-inside _ _ _ (c .before .before .read .given .1) (c .before .before .before .before .before .read-list .ensures .inside)
 
 slice-aggregate-insert : tie.Need-slice-aggregate-insert
-slice-aggregate-insert c = sym (length-take-le _ _ (words-inside _ _ _ (c .before .before .before .read .given .1) (c .before .before .before .before .before .before .read-list .ensures .inside)))
+slice-aggregate-insert c =
+    sym (length-take-le _ _
+    (words-inside _ _ _ (c .before .before .before .read .given .1)
+    (c .before .before .before .before .before .before .read-list .ensures .inside)))
 
 insert-requires : tie.Need-insert-requires
 insert-requires c κs = search needs
@@ -77,7 +90,8 @@ same-length-3 : tie.Need-same-length-3
 same-length-3 c = search needs
 
 returns-2 : tie.Need-returns-2
-returns-2 c = let a = c .before .before .before .before .before .before .before .before .before .before .before .before .before .before .before .before .before .before .before .before .before .before .args in
+returns-2 c =
+    let a = c .before .before .before .before .before .before .before .before .before .before .before .before .before .before .before .before .before .before .before .before .before .before .args in
     let l = a .line .now in
     let T = tables (a .reg .now) (a .nodes .now) in
     let g = c .before .before .before .before .before .before .before .before .before .before .before .before .before .before .before .before .before .before .before .before .before .before .pre .0 .good in

@@ -23,18 +23,23 @@ same-length c = search needs
 returns : tie.Need-returns
 returns c = let a = c .before .before .before .before .before .before .before .before .before .args in
     let m = c .before .before .before .before .before .before .answer-reply .ensures in
-    printed-refused (a .a) (a .places .now) (a .letter) tagsOf (c .before .before .before .before .before .before .answer-reply .result .number) (m .number) (c .before .before .before .before .if1 .taken) (c .before .before .put-answer .ensures)
+    printed-refused (a .a) (a .places .now) (a .letter) tagsOf
+    (c .before .before .before .before .before .before .answer-reply .result .number) (m .number)
+    (c .before .before .before .before .if1 .taken) (c .before .before .put-answer .ensures)
 
 slice-aggregate-put-listing : tie.Need-slice-aggregate-put-listing
 slice-aggregate-put-listing c = let a = c .before .before .before .before .before .before .before .args in
     let m = c .before .before .before .before .answer-reply .ensures in
-    sym (done-length (a .a) (a .places .now) _ _ (m .number) (c .before .before .if1 .left) (m .value) (c .before .before .before .before .before .before .before .pre .1))
+    sym (done-length (a .a) (a .places .now) _ _ (m .number) (c .before .before .if1 .left) (m .value)
+    (c .before .before .before .before .before .before .before .pre .1))
 
 put-listing-requires : tie.Need-put-listing-requires
 put-listing-requires c κs = let a = c .before .before .before .before .before .before .before .args in
     let m = c .before .before .before .before .answer-reply .ensures in
-    let n = done-length (a .a) (a .places .now) _ _ (m .number) (c .before .before .if1 .left) (m .value) (c .before .before .before .before .before .before .before .pre .1) in
-    let i = done-inside (a .a) (a .places .now) _ _ (m .number) (c .before .before .if1 .left) (m .value) (c .before .before .before .before .before .before .before .pre .1) in
+    let n = done-length (a .a) (a .places .now) _ _ (m .number) (c .before .before .if1 .left) (m .value)
+    (c .before .before .before .before .before .before .before .pre .1) in
+    let i = done-inside (a .a) (a .places .now) _ _ (m .number) (c .before .before .if1 .left) (m .value)
+    (c .before .before .before .before .before .before .before .pre .1) in
     omega (arith, c .before .before .before .before .before .before .before .pre .0)
 
 same-length-2 : tie.Need-same-length-2
@@ -43,7 +48,9 @@ same-length-2 c = search needs
 returns-2 : tie.Need-returns-2
 returns-2 c = let a = c .before .before .before .before .before .before .before .before .before .before .args in
     let m = c .before .before .before .before .before .before .before .answer-reply .ensures in
-    printed-done (a .a) (a .places .now) _ _ (m .number) (c .before .before .before .before .before .if1 .left) (m .value) (c .before .before .before .before .before .before .before .before .before .before .pre .1) (a .letter) tagsOf (c .before .before .put-listing .ensures)
+    printed-done (a .a) (a .places .now) _ _ (m .number) (c .before .before .before .before .before .if1 .left) (m .value)
+    (c .before .before .before .before .before .before .before .before .before .before .pre .1) (a .letter) tagsOf
+    (c .before .before .put-listing .ensures)
 
 pub put-listed-spec : {M : Type 1} → statement M
 put-listed-spec =

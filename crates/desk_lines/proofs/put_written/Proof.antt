@@ -24,18 +24,23 @@ same-length c = search needs
 returns : tie.Need-returns
 returns c = let a = c .before .before .before .before .before .before .before .before .before .args in
     let m = c .before .before .before .before .before .before .answer-reply .ensures in
-    printed-refused (a .a) (a .sheet .now) writes sheetText (c .before .before .before .before .before .before .answer-reply .result .number) (m .number) (c .before .before .before .before .if1 .taken) (c .before .before .put-answer .ensures)
+    printed-refused (a .a) (a .sheet .now) writes sheetText
+    (c .before .before .before .before .before .before .answer-reply .result .number) (m .number)
+    (c .before .before .before .before .if1 .taken) (c .before .before .put-answer .ensures)
 
 slice-aggregate-put-sheet : tie.Need-slice-aggregate-put-sheet
 slice-aggregate-put-sheet c = let a = c .before .before .before .before .before .before .before .args in
     let m = c .before .before .before .before .answer-reply .ensures in
-    sym (done-length (a .a) (a .sheet .now) _ _ (m .number) (c .before .before .if1 .left) (m .value) (c .before .before .before .before .before .before .before .pre .1))
+    sym (done-length (a .a) (a .sheet .now) _ _ (m .number) (c .before .before .if1 .left) (m .value)
+    (c .before .before .before .before .before .before .before .pre .1))
 
 put-sheet-requires : tie.Need-put-sheet-requires
 put-sheet-requires c κs = let a = c .before .before .before .before .before .before .before .args in
     let m = c .before .before .before .before .answer-reply .ensures in
-    let n = done-length (a .a) (a .sheet .now) _ _ (m .number) (c .before .before .if1 .left) (m .value) (c .before .before .before .before .before .before .before .pre .1) in
-    let i = done-inside (a .a) (a .sheet .now) _ _ (m .number) (c .before .before .if1 .left) (m .value) (c .before .before .before .before .before .before .before .pre .1) in
+    let n = done-length (a .a) (a .sheet .now) _ _ (m .number) (c .before .before .if1 .left) (m .value)
+    (c .before .before .before .before .before .before .before .pre .1) in
+    let i = done-inside (a .a) (a .sheet .now) _ _ (m .number) (c .before .before .if1 .left) (m .value)
+    (c .before .before .before .before .before .before .before .pre .1) in
     omega (arith, c .before .before .before .before .before .before .before .pre .0)
 
 same-length-2 : tie.Need-same-length-2
@@ -45,7 +50,9 @@ returns-2 : tie.Need-returns-2
 unfolding sheetText
 returns-2 c = let a = c .before .before .before .before .before .before .before .before .before .before .args in
     let m = c .before .before .before .before .before .before .before .answer-reply .ensures in
-    printed-done (a .a) (a .sheet .now) _ _ (m .number) (c .before .before .before .before .before .if1 .left) (m .value) (c .before .before .before .before .before .before .before .before .before .before .pre .1) writes sheetText (c .before .before .put-sheet .ensures)
+    printed-done (a .a) (a .sheet .now) _ _ (m .number) (c .before .before .before .before .before .if1 .left) (m .value)
+    (c .before .before .before .before .before .before .before .before .before .before .pre .1) writes sheetText
+    (c .before .before .put-sheet .ensures)
 
 pub put-written-spec : {M : Type 1} → statement M
 put-written-spec =

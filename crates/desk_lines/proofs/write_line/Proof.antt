@@ -12,8 +12,11 @@ write-sheet-requires : tie.Need-write-sheet-requires
 write-sheet-requires c κs = search needs
 
 put-written-requires : tie.Need-put-written-requires
-put-written-requires c κs = let a = c .before .before .before .before .before .before .before .before .before .before .args in
-    (omega (arith, c .before .before .before .before .write-sheet .kept .1 .1 .0), written-inside (tables (a .reg .now) (a .nodes .now)) (a .sheet .now) _ _ (c .before .before .before .before .write-sheet .ensures))
+put-written-requires c κs = let a = c .before .before .before .before .before .before .before .before .before .before .args in (
+  omega (arith, c .before .before .before .before .write-sheet .kept .1 .1 .0),
+  written-inside
+      (tables (a .reg .now) (a .nodes .now)) (a .sheet .now) _ _ (c .before .before .before .before .write-sheet .ensures),
+)
 
 same-length : tie.Need-same-length
 same-length c = search needs
@@ -23,10 +26,12 @@ same-length-2 c = search needs
 
 returns : tie.Need-returns
 unfolding writeLine
-returns c = let a = c .before .before .before .before .before .before .before .before .before .before .before .before .before .args in (
-  shown-put writes sheetText (writing (tables (a .reg .now) (a .nodes .now)) (a .sheet .now)) (a .sheet .now) _ _ (c .before .before .before .before .before .before .before .write-sheet .ensures) (c .before .before .put-written .ensures),
-  c .before .before .before .before .before .before .before .write-sheet .ensures .lent,
-)
+returns c =
+    let a = c .before .before .before .before .before .before .before .before .before .before .before .before .before .args in (
+      shown-put writes sheetText (writing (tables (a .reg .now) (a .nodes .now)) (a .sheet .now)) (a .sheet .now) _ _
+          (c .before .before .before .before .before .before .before .write-sheet .ensures) (c .before .before .put-written .ensures),
+      c .before .before .before .before .before .before .before .write-sheet .ensures .lent,
+    )
 
 pub write-line-spec : {M : Type 1} → statement M
 write-line-spec =

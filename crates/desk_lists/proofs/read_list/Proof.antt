@@ -24,15 +24,20 @@ abbrev μ-loop : tie.MeasureT-loop
 μ-loop line from reg list₀ n₀ at₀ list n at = length line + 1 - at
 
 -- a variant other than the first is a refusal, of value 0
-looked-stops : (s : Looked) → run.OneOf (1 ∷ 2 ∷ 3 ∷ 4 ∷ []) (decl.tagOf declared.the-type s) → lookedReply s ≡ refused (numberOf (lookedReply s)) 0
-looked-stops (looked.Place p) k = absurd (⊎-elim (λ h. omega arith) (λ k′. ⊎-elim (λ h. omega arith) (λ k″. ⊎-elim (λ h. omega arith) (λ h. omega arith) k″) k′) k)
+looked-stops : (s : Looked) → run.OneOf (1 ∷ 2 ∷ 3 ∷ 4 ∷ []) (decl.tagOf declared.the-type s) →
+    lookedReply s ≡ refused (numberOf (lookedReply s)) 0
+looked-stops (looked.Place p) k =
+    absurd
+    (⊎-elim (λ h. omega arith) (λ k′. ⊎-elim (λ h. omega arith) (λ k″. ⊎-elim (λ h. omega arith) (λ h. omega arith) k″) k′) k)
 looked-stops looked.WrongLength k = refl
 looked-stops looked.NotSound k = refl
 looked-stops looked.BadNumber k = refl
 looked-stops looked.NotHeld k = refl
 
 loop-holds : tie.Need-loop-holds Inv-loop μ-loop
-loop-holds c = reading-start _ _ _ _ (c .before .before .before .pre .0) (c .before .before .before .pre .1 .1)
+loop-holds c =
+    let start : tie.Start Inv-loop μ-loop = search in
+    reading-start _ _ _ _ (start .pre .0) (start .pre .1 .1)
 
 end-of-requires : tie.Need-end-of-requires Inv-loop μ-loop
 end-of-requires c κs = omega arith
@@ -47,7 +52,9 @@ part-look-up-in-end : tie.Need-part-look-up-in-end Inv-loop μ-loop
 part-look-up-in-end c = omega (arith, c .end-of .ensures .high)
 
 look-up-in-requires : tie.Need-look-up-in-requires Inv-loop μ-loop
-look-up-in-requires c κs = c .before .before .before .before .before .before .before .pre .1 .0
+look-up-in-requires c κs =
+    let start : tie.Start Inv-loop μ-loop = search in
+    start .pre .1 .0
 
 enum-known-found : tie.Need-enum-known-found Inv-loop μ-loop
 enum-known-found c = search needs
@@ -56,17 +63,37 @@ looked-reply-requires : tie.Need-looked-reply-requires Inv-loop μ-loop
 looked-reply-requires c κs = search needs
 
 same-length : tie.Need-same-length Inv-loop μ-loop
-same-length c = c .before .before .before .before .before .before .loop .inv .size
+same-length c =
+    let at-loop : tie.At-loop Inv-loop μ-loop = search in
+    at-loop .loop .inv .size
 
 returns : tie.Need-returns Inv-loop μ-loop
-returns c = let a = sym (c .before .before .look-up-in .ensures) ∙ looked-stops (c .before .before .look-up-in .result) (c .before .match .keys2) ∙ ap (λ n. refused n 0) (sym (c .looked-reply .ensures .number)) in
-    record { says = reading-stopped (c .before .before .before .before .before .before .loop .inv) (c .before .before .before .before .end-of .result) (c .before .before .before .before .before .loop-test .taken) (c .before .before .before .before .end-of .ensures) (c .looked-reply .result .number) 0 a; inside = omega arith }
+returns c =
+    let at-look-up-in : tie.After-look-up-in Inv-loop μ-loop = search in
+    let at-end-of : tie.After-end-of Inv-loop μ-loop = search in
+    let in-loop : tie.In-loop Inv-loop μ-loop = search in
+    let at-loop : tie.At-loop Inv-loop μ-loop = search in
+    let a = sym (at-look-up-in .look-up-in .ensures) ∙ looked-stops (at-look-up-in .look-up-in .result) (c .before .match .keys2)
+    ∙ ap (λ n. refused n 0) (sym (c .looked-reply .ensures .number)) in
+    record {
+      says =
+          reading-stopped (at-loop .loop .inv) (at-end-of .end-of .result) (in-loop .loop-test .taken) (at-end-of .end-of .ensures)
+          (c .looked-reply .result .number) 0 a;
+      inside = omega arith;
+    }
 
 add-start : tie.Need-add-start Inv-loop μ-loop
-add-start c = omega (arith, c .before .before .before .before .before .end-of .ensures .high)
+add-start c =
+    let at-end-of : tie.After-end-of Inv-loop μ-loop = search in
+    omega (arith, at-end-of .end-of .ensures .high)
 
 end-of-requires-2 : tie.Need-end-of-requires-2 Inv-loop μ-loop
-end-of-requires-2 c κs = let q = quantity-follows _ _ _ (c .before .before .before .before .before .before .before .loop .inv .pairs) (c .before .before .before .before .before .before .loop-test .taken) (c .before .before .before .before .before .end-of .ensures) in omega arith
+end-of-requires-2 c κs =
+    let at-end-of : tie.After-end-of Inv-loop μ-loop = search in
+    let in-loop : tie.In-loop Inv-loop μ-loop = search in
+    let at-loop : tie.At-loop Inv-loop μ-loop = search in
+    let q = quantity-follows _ _ _ (at-loop .loop .inv .pairs) (in-loop .loop-test .taken) (at-end-of .end-of .ensures) in
+    omega arith
 
 sub-read-amount : tie.Need-sub-read-amount Inv-loop μ-loop
 sub-read-amount c = omega (arith, c .end-of2 .ensures .low)
@@ -81,27 +108,59 @@ read-amount-requires : tie.Need-read-amount-requires Inv-loop μ-loop
 read-amount-requires c κs = search needs
 
 put-pair-requires : tie.Need-put-pair-requires Inv-loop μ-loop
-put-pair-requires c κs = pair-room (c .before .before .before .before .before .before .before .before .before .before .before .loop .inv) _ (c .before .before .before .before .before .before .before .before .before .before .loop-test .taken) (c .before .before .before .before .before .before .before .before .before .end-of .ensures) _ (c .before .before .before .end-of2 .ensures)
+put-pair-requires c κs =
+    let at-end-of2 : tie.After-end-of2 Inv-loop μ-loop = search in
+    let at-end-of : tie.After-end-of Inv-loop μ-loop = search in
+    let in-loop : tie.In-loop Inv-loop μ-loop = search in
+    let at-loop : tie.At-loop Inv-loop μ-loop = search in
+    pair-room (at-loop .loop .inv) _ (in-loop .loop-test .taken) (at-end-of .end-of .ensures) _ (at-end-of2 .end-of2 .ensures)
 
 add-n : tie.Need-add-n Inv-loop μ-loop
-add-n c = omega (arith, pair-room (c .before .before .before .before .before .before .before .before .before .before .before .before .before .before .loop .inv) _ (c .before .before .before .before .before .before .before .before .before .before .before .before .before .loop-test .taken) (c .before .before .before .before .before .before .before .before .before .before .before .before .end-of .ensures) _ (c .before .before .before .before .before .before .end-of2 .ensures), c .before .before .before .before .before .before .before .before .before .before .before .before .before .before .loop .inv .size)
+add-n c =
+    let at-end-of2 : tie.After-end-of2 Inv-loop μ-loop = search in
+    let at-end-of : tie.After-end-of Inv-loop μ-loop = search in
+    let in-loop : tie.In-loop Inv-loop μ-loop = search in
+    let at-loop : tie.At-loop Inv-loop μ-loop = search in
+    omega (
+      arith,
+      pair-room (at-loop .loop .inv) _ (in-loop .loop-test .taken) (at-end-of .end-of .ensures) _
+          (at-end-of2 .end-of2 .ensures),
+      at-loop .loop .inv .size,
+    )
 
 add-at : tie.Need-add-at Inv-loop μ-loop
-add-at c = omega (arith, c .before .before .before .before .before .before .end-of2 .ensures .high)
+add-at c =
+    let at-end-of2 : tie.After-end-of2 Inv-loop μ-loop = search in
+    omega (arith, at-end-of2 .end-of2 .ensures .high)
 
 loop-less : tie.Need-loop-less Inv-loop μ-loop
-loop-less c = omega (arith, c .before .before .before .before .before .before .end-of2 .ensures .low, c .before .before .before .before .before .before .before .before .before .before .before .before .end-of .ensures .low)
+loop-less c =
+    let at-end-of2 : tie.After-end-of2 Inv-loop μ-loop = search in
+    let at-end-of : tie.After-end-of Inv-loop μ-loop = search in
+    omega (arith, at-end-of2 .end-of2 .ensures .low, at-end-of .end-of .ensures .low)
 
 loop-again : tie.Need-loop-again Inv-loop μ-loop
-loop-again c = let a = sym (c .before .before .before .before .before .before .before .before .before .before .look-up-in .ensures) ∙ ap lookedReply (c .before .before .before .before .before .before .before .before .found .given .1) in
-    let g = amount-follows _ _ _ (c .before .before .before .before .before .before .before .before .before .before .before .before .before .before .loop .inv .pairs) (c .before .before .before .before .before .before .before .before .before .before .before .before .before .loop-test .taken) (c .before .before .before .before .before .before .before .before .before .before .before .before .end-of .ensures) _ (c .before .before .before .before .before .before .end-of2 .ensures) in
-    reading-on (c .before .before .before .before .before .before .before .before .before .before .before .before .before .before .loop .inv) _ (c .before .before .before .before .before .before .before .before .before .before .before .before .before .loop-test .taken) (c .before .before .before .before .before .before .before .before .before .before .before .before .end-of .ensures) _ (c .before .before .before .before .before .before .end-of2 .ensures) (c .before .before .before .before .before .before .before .before .found .given .0 .0) (c .before .before .before .before .read-amount .result .value) _ a (amount-value _ _ (c .before .before .before .before .read-amount .ensures) g) (c .before .before .put-pair .ensures)
+loop-again c =
+    let at-read-amount : tie.After-read-amount Inv-loop μ-loop = search in
+    let at-end-of2 : tie.After-end-of2 Inv-loop μ-loop = search in
+    let at-found : tie.After-found Inv-loop μ-loop = search in
+    let at-look-up-in : tie.After-look-up-in Inv-loop μ-loop = search in
+    let at-end-of : tie.After-end-of Inv-loop μ-loop = search in
+    let in-loop : tie.In-loop Inv-loop μ-loop = search in
+    let at-loop : tie.At-loop Inv-loop μ-loop = search in
+    let a = sym (at-look-up-in .look-up-in .ensures) ∙ ap lookedReply (at-found .found .given .1) in
+    let g = amount-follows _ _ _ (at-loop .loop .inv .pairs) (in-loop .loop-test .taken) (at-end-of .end-of .ensures) _
+    (at-end-of2 .end-of2 .ensures) in
+    reading-on (at-loop .loop .inv) _ (in-loop .loop-test .taken) (at-end-of .end-of .ensures) _ (at-end-of2 .end-of2 .ensures)
+    (at-found .found .given .0 .0) (at-read-amount .read-amount .result .value) _ a
+    (amount-value _ _ (at-read-amount .read-amount .ensures) g) (c .before .before .put-pair .ensures)
 
 same-length-2 : tie.Need-same-length-2 Inv-loop μ-loop
 same-length-2 c = c .before .loop .inv .size
 
 returns-2 : tie.Need-returns-2 Inv-loop μ-loop
-returns-2 c = record { says = reading-end (c .before .loop .inv) (c .loop-test .left); inside = reading-inside (c .before .loop .inv) }
+returns-2 c =
+    record { says = reading-end (c .before .loop .inv) (c .loop-test .left); inside = reading-inside (c .before .loop .inv) }
 
 pub read-list-spec : {M : Type 1} → statement M
 read-list-spec =

@@ -41,35 +41,52 @@ module _ (t : ℕ) where
   digit-requires c κs = c .before .if1 .taken
 
   put-byte-requires : lts.Need-put-byte-requires (R t) (At t) own.Post
-  put-byte-requires c κs = omega (arith, ap length (decimal-one (c .before .before .before .before .args .n) (c .before .before .if1 .taken)), c .before .before .before .before .pre .1)
+  put-byte-requires c κs =
+      let start : lts.Start (R t) (At t) own.Post = search in
+      omega (arith, ap length (decimal-one (start .args .n) (c .before .before .if1 .taken)), start .pre .1)
 
   same-length : lts.Need-same-length (R t) (At t) own.Post
   same-length c = search needs
 
   returns : lts.Need-returns (R t) (At t) own.Post
-  returns c = put-same (c .before .before .put-byte .ensures) (cc (decimal-one (c .before .before .before .before .before .before .before .args .n) (c .before .before .before .before .before .if1 .taken)))
+  returns c =
+      let then1 : lts.Then1 (R t) (At t) own.Post = search in
+      let start : lts.Start (R t) (At t) own.Post = search in
+      put-same (c .before .before .put-byte .ensures) (cc (decimal-one (start .args .n) (then1 .if1 .taken)))
 
   put-decimal-requires : lts.Need-put-decimal-requires (R t) (At t) own.Post
-  put-decimal-requires c κs = (omega (arith, c .before .before .before .pre .0), omega (arith, decimal-length (c .before .before .before .args .n) (c .before .if1 .left), c .before .before .before .pre .1))
+  put-decimal-requires c κs =
+      let start : lts.Start (R t) (At t) own.Post = search in
+      (omega (arith, start .pre .0), omega (arith, decimal-length (start .args .n) (c .before .if1 .left), start .pre .1))
 
   digit-requires-2 : lts.Need-digit-requires-2 (R t) (At t) own.Post
   digit-requires-2 c κs = omega arith
 
   put-byte-requires-2 : lts.Need-put-byte-requires-2 (R t) (At t) own.Post
-  put-byte-requires-2 c κs = let d = decimal-length (c .before .before .before .before .before .before .before .before .args .n) (c .before .before .before .before .before .before .if1 .left) in
-      let r : c .before .before .before .before .before .before .before .before .args .at + length (decimal (c .before .before .before .before .before .before .before .before .args .n / 10)) ≤ length (c .before .before .before .before .before .before .before .before .args .out .now) = omega (arith, d, c .before .before .before .before .before .before .before .before .pre .1) in
-      let l = put-length r (c .before .before .before .before .put-decimal .ensures) in
-      omega (arith, c .before .before .before .before .put-decimal .ensures .behind, c .before .before .before .before .before .before .before .before .pre .1)
+  put-byte-requires-2 c κs =
+      let at-put-decimal : lts.After-put-decimal (R t) (At t) own.Post = search in
+      let else1 : lts.Else1 (R t) (At t) own.Post = search in
+      let start : lts.Start (R t) (At t) own.Post = search in
+      let d = decimal-length (start .args .n) (else1 .if1 .left) in
+      let r : start .args .at + length (decimal (start .args .n / 10)) ≤ length (start .args .out .now) = omega
+      (arith, d, start .pre .1) in
+      let l = put-length r (at-put-decimal .put-decimal .ensures) in
+      omega (arith, at-put-decimal .put-decimal .ensures .behind, start .pre .1)
 
   same-length-2 : lts.Need-same-length-2 (R t) (At t) own.Post
   same-length-2 c = search needs
 
   returns-2 : lts.Need-returns-2 (R t) (At t) own.Post
-  returns-2 c = let n = c .before .before .before .before .before .before .before .before .before .before .before .args .n in
-      let d = decimal-length n (c .before .before .before .before .before .before .before .before .before .if1 .left) in
-      let r : c .before .before .before .before .before .before .before .before .before .before .before .args .at + length (decimal (n / 10)) ≤ length (c .before .before .before .before .before .before .before .before .before .before .before .args .out .now) = omega (arith, d, c .before .before .before .before .before .before .before .before .before .before .before .pre .1) in
-      let e : decimal (n / 10) ++ (c .before .before .before .digit2 .result ∷ []) ≡ decimal n = cc (decimal-more n (c .before .before .before .before .before .before .before .before .before .if1 .left)) in
-      put-same (put-put r (c .before .before .before .before .before .before .before .put-decimal .ensures) (c .before .before .put-byte2 .ensures)) e
+  returns-2 c =
+      let at-digit2 : lts.After-digit2 (R t) (At t) own.Post = search in
+      let at-put-decimal : lts.After-put-decimal (R t) (At t) own.Post = search in
+      let else1 : lts.Else1 (R t) (At t) own.Post = search in
+      let start : lts.Start (R t) (At t) own.Post = search in
+      let n = start .args .n in
+      let d = decimal-length n (else1 .if1 .left) in
+      let r : start .args .at + length (decimal (n / 10)) ≤ length (start .args .out .now) = omega (arith, d, start .pre .1) in
+      let e : decimal (n / 10) ++ (at-digit2 .digit2 .result ∷ []) ≡ decimal n = cc (decimal-more n (else1 .if1 .left)) in
+      put-same (put-put r (at-put-decimal .put-decimal .ensures) (c .before .before .put-byte2 .ensures)) e
 
 pub +put-decimal-spec : {M : Type 1} → statement M
 +put-decimal-spec =

@@ -8,25 +8,60 @@ use Rattle.desk_replies.proofs.put_head.Statement.{statement}
 use Rattle.desk_replies.proofs.put_head.Tie as tie
 
 put-byte-requires : tie.Need-put-byte-requires
-put-byte-requires c κs = rest-byte-room (head-start (c .before .before .args .out .now) (c .before .before .args .letter) (c .before .before .args .number) (c .before .before .args .value) (c .before .before .pre)) refl
+put-byte-requires c κs =
+    let start : tie.Start = search in
+    rest-byte-room (head-start (start .args .out .now) (start .args .letter) (start .args .number) (start .args .value)
+    (start .pre)) refl
 
 put-byte-requires-2 : tie.Need-put-byte-requires-2
-put-byte-requires-2 c κs = rest-byte-room (head-letter (c .before .before .before .before .before .before .args .out .now) (c .before .before .before .before .before .before .args .letter) (c .before .before .before .before .before .before .args .number) (c .before .before .before .before .before .before .args .value) (c .before .before .before .before .before .before .pre) (c .before .before .before .put-byte .ensures)) refl
+put-byte-requires-2 c κs =
+    let at-put-byte : tie.After-put-byte = search in
+    let start : tie.Start = search in
+    rest-byte-room (head-letter (start .args .out .now) (start .args .letter) (start .args .number) (start .args .value)
+    (start .pre) (at-put-byte .put-byte .ensures)) refl
 
 put-decimal-requires : tie.Need-put-decimal-requires
-put-decimal-requires c κs = rest-room (decimal (c .before .before .before .before .before .before .before .before .before .before .args .number)) (space ∷ decimal (c .before .before .before .before .before .before .before .before .before .before .args .value)) (head-space (c .before .before .before .before .before .before .before .before .before .before .args .out .now) (c .before .before .before .before .before .before .before .before .before .before .args .letter) (c .before .before .before .before .before .before .before .before .before .before .args .number) (c .before .before .before .before .before .before .before .before .before .before .args .value) (c .before .before .before .before .before .before .before .before .before .before .pre) (c .before .before .before .before .before .before .before .put-byte .ensures) (c .before .before .before .put-byte2 .ensures)) refl
+put-decimal-requires c κs =
+    let at-put-byte2 : tie.After-put-byte2 = search in
+    let at-put-byte : tie.After-put-byte = search in
+    let start : tie.Start = search in
+    rest-room (decimal (start .args .number)) (space ∷ decimal (start .args .value))
+    (head-space (start .args .out .now) (start .args .letter) (start .args .number) (start .args .value) (start .pre)
+    (at-put-byte .put-byte .ensures) (at-put-byte2 .put-byte2 .ensures)) refl
 
 put-byte-requires-3 : tie.Need-put-byte-requires-3
-put-byte-requires-3 c κs = rest-byte-room (head-number (c .before .before .before .before .before .before .before .before .before .before .before .before .before .before .args .out .now) (c .before .before .before .before .before .before .before .before .before .before .before .before .before .before .args .letter) (c .before .before .before .before .before .before .before .before .before .before .before .before .before .before .args .number) (c .before .before .before .before .before .before .before .before .before .before .before .before .before .before .args .value) (c .before .before .before .before .before .before .before .before .before .before .before .before .before .before .pre) (c .before .before .before .before .before .before .before .before .before .before .before .put-byte .ensures) (c .before .before .before .before .before .before .before .put-byte2 .ensures) (c .before .before .before .put-decimal .ensures)) refl
+put-byte-requires-3 c κs =
+    let at-put-decimal : tie.After-put-decimal = search in
+    let at-put-byte2 : tie.After-put-byte2 = search in
+    let at-put-byte : tie.After-put-byte = search in
+    let start : tie.Start = search in
+    rest-byte-room (head-number (start .args .out .now) (start .args .letter) (start .args .number) (start .args .value)
+    (start .pre) (at-put-byte .put-byte .ensures) (at-put-byte2 .put-byte2 .ensures) (at-put-decimal .put-decimal .ensures)) refl
 
 put-decimal-requires-2 : tie.Need-put-decimal-requires-2
-put-decimal-requires-2 c κs = head-gap (c .before .before .before .before .before .before .before .before .before .before .before .before .before .before .before .before .before .before .args .out .now) (c .before .before .before .before .before .before .before .before .before .before .before .before .before .before .before .before .before .before .args .letter) (c .before .before .before .before .before .before .before .before .before .before .before .before .before .before .before .before .before .before .args .number) (c .before .before .before .before .before .before .before .before .before .before .before .before .before .before .before .before .before .before .args .value) (c .before .before .before .before .before .before .before .before .before .before .before .before .before .before .before .before .before .before .pre) (c .before .before .before .before .before .before .before .before .before .before .before .before .before .before .before .put-byte .ensures) (c .before .before .before .before .before .before .before .before .before .before .before .put-byte2 .ensures) (c .before .before .before .before .before .before .before .put-decimal .ensures) (c .before .before .before .put-byte3 .ensures) .room
+put-decimal-requires-2 c κs =
+    let at-put-byte3 : tie.After-put-byte3 = search in
+    let at-put-decimal : tie.After-put-decimal = search in
+    let at-put-byte2 : tie.After-put-byte2 = search in
+    let at-put-byte : tie.After-put-byte = search in
+    let start : tie.Start = search in
+    head-gap (start .args .out .now) (start .args .letter) (start .args .number) (start .args .value) (start .pre)
+    (at-put-byte .put-byte .ensures) (at-put-byte2 .put-byte2 .ensures) (at-put-decimal .put-decimal .ensures)
+    (at-put-byte3 .put-byte3 .ensures) .room
 
 same-length : tie.Need-same-length
 same-length c = search needs
 
 returns : tie.Need-returns
-returns c = head-value (c .before .before .before .before .before .before .before .before .before .before .before .before .before .before .before .before .before .before .before .before .before .args .out .now) (c .before .before .before .before .before .before .before .before .before .before .before .before .before .before .before .before .before .before .before .before .before .args .letter) (c .before .before .before .before .before .before .before .before .before .before .before .before .before .before .before .before .before .before .before .before .before .args .number) (c .before .before .before .before .before .before .before .before .before .before .before .before .before .before .before .before .before .before .before .before .before .args .value) (c .before .before .before .before .before .before .before .before .before .before .before .before .before .before .before .before .before .before .before .before .before .pre) (c .before .before .before .before .before .before .before .before .before .before .before .before .before .before .before .before .before .before .put-byte .ensures) (c .before .before .before .before .before .before .before .before .before .before .before .before .before .before .put-byte2 .ensures) (c .before .before .before .before .before .before .before .before .before .before .put-decimal .ensures) (c .before .before .before .before .before .before .put-byte3 .ensures) (c .before .before .put-decimal2 .ensures)
+returns c =
+    let at-put-byte3 : tie.After-put-byte3 = search in
+    let at-put-decimal : tie.After-put-decimal = search in
+    let at-put-byte2 : tie.After-put-byte2 = search in
+    let at-put-byte : tie.After-put-byte = search in
+    let start : tie.Start = search in
+    head-value (start .args .out .now) (start .args .letter) (start .args .number) (start .args .value) (start .pre)
+    (at-put-byte .put-byte .ensures) (at-put-byte2 .put-byte2 .ensures) (at-put-decimal .put-decimal .ensures)
+    (at-put-byte3 .put-byte3 .ensures) (c .before .before .put-decimal2 .ensures)
 
 pub put-head-spec : {M : Type 1} → statement M
 put-head-spec =

@@ -21,20 +21,34 @@ shared-slice-read-hex-digit : tie.Need-shared-slice-read-hex-digit Inv-loop μ-l
 shared-slice-read-hex-digit c = omega arith
 
 hex-digit-requires : tie.Need-hex-digit-requires Inv-loop μ-loop
-hex-digit-requires c κs = omega (arith, c .shared-slice-known2 .given (c .before .before .before .loop .i))
+hex-digit-requires c κs =
+    let at-loop : tie.At-loop Inv-loop μ-loop = search in
+    omega (arith, c .shared-slice-known2 .given (at-loop .loop .i))
 
 put-byte-requires : tie.Need-put-byte-requires Inv-loop μ-loop
-put-byte-requires c κs = rest-byte-room (c .before .before .before .before .loop .inv .1) (hex-step (c .before .before .before .before .before .before .before .args .bytes .now) (c .before .before .before .before .loop .i) (c .before .before .before .loop-test .taken))
+put-byte-requires c κs =
+    let in-loop : tie.In-loop Inv-loop μ-loop = search in
+    let at-loop : tie.At-loop Inv-loop μ-loop = search in
+    let start : tie.Start Inv-loop μ-loop = search in
+    rest-byte-room (at-loop .loop .inv .1) (hex-step (start .args .bytes .now) (at-loop .loop .i) (in-loop .loop-test .taken))
 
 shared-slice-read-hex-digit-2 : tie.Need-shared-slice-read-hex-digit-2 Inv-loop μ-loop
 shared-slice-read-hex-digit-2 c = omega arith
 
 hex-digit-requires-2 : tie.Need-hex-digit-requires-2 Inv-loop μ-loop
-hex-digit-requires-2 c κs = omega (arith, c .shared-slice-known3 .given (c .before .before .before .before .before .before .before .before .before .loop .i))
+hex-digit-requires-2 c κs =
+    let at-loop : tie.At-loop Inv-loop μ-loop = search in
+    omega (arith, c .shared-slice-known3 .given (at-loop .loop .i))
 
 put-byte-requires-2 : tie.Need-put-byte-requires-2 Inv-loop μ-loop
-put-byte-requires-2 c κs = let s = hex-step (c .before .before .before .before .before .before .before .before .before .before .before .before .before .args .bytes .now) (c .before .before .before .before .before .before .before .before .before .before .loop .i) (c .before .before .before .before .before .before .before .before .before .loop-test .taken) in
-    rest-byte-room (rest-byte (c .before .before .before .before .before .before .before .before .before .before .loop .inv .1) s (c .before .before .before .before .before .before .hex-digit .ensures) (c .before .before .before .before .before .put-byte .ensures)) refl
+put-byte-requires-2 c κs =
+    let at-put-byte : tie.After-put-byte Inv-loop μ-loop = search in
+    let at-hex-digit : tie.After-hex-digit Inv-loop μ-loop = search in
+    let in-loop : tie.In-loop Inv-loop μ-loop = search in
+    let at-loop : tie.At-loop Inv-loop μ-loop = search in
+    let start : tie.Start Inv-loop μ-loop = search in
+    let s = hex-step (start .args .bytes .now) (at-loop .loop .i) (in-loop .loop-test .taken) in
+    rest-byte-room (rest-byte (at-loop .loop .inv .1) s (at-hex-digit .hex-digit .ensures) (at-put-byte .put-byte .ensures)) refl
 
 add-i : tie.Need-add-i Inv-loop μ-loop
 add-i c = omega arith
@@ -43,8 +57,19 @@ loop-less : tie.Need-loop-less Inv-loop μ-loop
 loop-less c = omega arith
 
 loop-again : tie.Need-loop-again Inv-loop μ-loop
-loop-again c = let s = hex-step (c .before .before .before .before .before .before .before .before .before .before .before .before .before .before .before .before .args .bytes .now) (c .before .before .before .before .before .before .before .before .before .before .before .before .before .loop .i) (c .before .before .before .before .before .before .before .before .before .before .before .before .loop-test .taken) in
-    (omega arith, rest-byte (rest-byte (c .before .before .before .before .before .before .before .before .before .before .before .before .before .loop .inv .1) s (c .before .before .before .before .before .before .before .before .before .hex-digit .ensures) (c .before .before .before .before .before .before .before .before .put-byte .ensures)) refl (c .before .before .before .hex-digit2 .ensures) (c .before .before .put-byte2 .ensures))
+loop-again c =
+    let at-hex-digit2 : tie.After-hex-digit2 Inv-loop μ-loop = search in
+    let at-put-byte : tie.After-put-byte Inv-loop μ-loop = search in
+    let at-hex-digit : tie.After-hex-digit Inv-loop μ-loop = search in
+    let in-loop : tie.In-loop Inv-loop μ-loop = search in
+    let at-loop : tie.At-loop Inv-loop μ-loop = search in
+    let start : tie.Start Inv-loop μ-loop = search in
+    let s = hex-step (start .args .bytes .now) (at-loop .loop .i) (in-loop .loop-test .taken) in (
+      omega arith,
+      rest-byte
+          (rest-byte (at-loop .loop .inv .1) s (at-hex-digit .hex-digit .ensures) (at-put-byte .put-byte .ensures)) refl
+          (at-hex-digit2 .hex-digit2 .ensures) (c .before .before .put-byte2 .ensures),
+    )
 
 same-length : tie.Need-same-length Inv-loop μ-loop
 same-length c = c .before .loop .inv .1 .size

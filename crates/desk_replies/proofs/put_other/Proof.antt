@@ -14,7 +14,9 @@ same-length : tie.Need-same-length
 same-length c = search needs
 
 returns : tie.Need-returns
-returns c = put-put (omega arith) (c .before .before .before .before .before .before .put-byte .ensures) (c .before .before .put-byte2 .ensures)
+returns c =
+    let at-put-byte : tie.After-put-byte = search in
+    put-put (omega arith) (at-put-byte .put-byte .ensures) (c .before .before .put-byte2 .ensures)
 
 pub put-other-spec : {M : Type 1} → statement M
 put-other-spec = tie.close (tie.spec put-byte-requires put-byte-requires-2 same-length returns)

@@ -11,36 +11,62 @@ use Rattle.desk_replies.proofs.put_sheet.Statement.{statement}
 use Rattle.desk_replies.proofs.put_sheet.Tie as tie
 
 put-head-requires : tie.Need-put-head-requires
-put-head-requires c κs = let a = c .before .before .before .args in
+put-head-requires c κs =
+    let start : tie.Start = search in
+    let a = start .args in
     let s = a .sheet .now in
-    head-fits (a .letter) 0 (length s) (space ∷ hexOf s) (a .out .now) (sheet-room (a .letter) (a .out .now) s (omega arith) (c .before .before .before .pre))
+    head-fits (a .letter) 0 (length s) (space ∷ hexOf s) (a .out .now)
+    (sheet-room (a .letter) (a .out .now) s (omega arith) (start .pre))
 
 put-byte-requires : tie.Need-put-byte-requires
-put-byte-requires c κs = let a = c .before .before .before .before .before .before .before .args in
+put-byte-requires c κs =
+    let at-put-head : tie.After-put-head = search in
+    let start : tie.Start = search in
+    let a = start .args in
     let s = a .sheet .now in
-    let h = sheet-room (a .letter) (a .out .now) s (omega arith) (c .before .before .before .before .before .before .before .pre) in
-    rest-byte-room (behind-head (a .letter) 0 (length s) (space ∷ hexOf s) h (c .before .before .before .put-head .ensures)) refl
+    let h = sheet-room (a .letter) (a .out .now) s (omega arith) (start .pre) in
+    rest-byte-room (behind-head (a .letter) 0 (length s) (space ∷ hexOf s) h (at-put-head .put-head .ensures)) refl
 
 put-hex-requires : tie.Need-put-hex-requires
-put-hex-requires c κs = let a = c .before .before .before .before .before .before .before .before .before .before .before .args in
+put-hex-requires c κs =
+    let at-put-byte : tie.After-put-byte = search in
+    let at-put-head : tie.After-put-head = search in
+    let start : tie.Start = search in
+    let a = start .args in
     let s = a .sheet .now in
-    let h = sheet-room (a .letter) (a .out .now) s (omega arith) (c .before .before .before .before .before .before .before .before .before .before .before .pre) in
-    rest-room (hexOf s) (lineFeed ∷ []) (rest-byte (behind-head (a .letter) 0 (length s) (space ∷ hexOf s) h (c .before .before .before .before .before .before .before .put-head .ensures)) refl refl (c .before .before .before .put-byte .ensures)) refl
+    let h = sheet-room (a .letter) (a .out .now) s (omega arith) (start .pre) in
+    rest-room (hexOf s) (lineFeed ∷ [])
+    (rest-byte (behind-head (a .letter) 0 (length s) (space ∷ hexOf s) h (at-put-head .put-head .ensures)) refl refl
+    (at-put-byte .put-byte .ensures)) refl
 
 put-byte-requires-2 : tie.Need-put-byte-requires-2
-put-byte-requires-2 c κs = let a = c .before .before .before .before .before .before .before .before .before .before .before .before .before .before .before .args in
+put-byte-requires-2 c κs =
+    let at-put-hex : tie.After-put-hex = search in
+    let at-put-byte : tie.After-put-byte = search in
+    let at-put-head : tie.After-put-head = search in
+    let start : tie.Start = search in
+    let a = start .args in
     let s = a .sheet .now in
-    let h = sheet-room (a .letter) (a .out .now) s (omega arith) (c .before .before .before .before .before .before .before .before .before .before .before .before .before .before .before .pre) in
-    rest-byte-room (rest-put {more = lineFeed ∷ []} (rest-byte (behind-head (a .letter) 0 (length s) (space ∷ hexOf s) h (c .before .before .before .before .before .before .before .before .before .before .before .put-head .ensures)) refl refl (c .before .before .before .before .before .before .before .put-byte .ensures)) refl (c .before .before .before .put-hex .ensures)) refl
+    let h = sheet-room (a .letter) (a .out .now) s (omega arith) (start .pre) in
+    rest-byte-room (rest-put {more = lineFeed ∷ []}
+    (rest-byte (behind-head (a .letter) 0 (length s) (space ∷ hexOf s) h (at-put-head .put-head .ensures)) refl refl
+    (at-put-byte .put-byte .ensures)) refl (at-put-hex .put-hex .ensures)) refl
 
 same-length : tie.Need-same-length
 same-length c = search needs
 
 returns : tie.Need-returns
-returns c = let a = c .before .before .before .before .before .before .before .before .before .before .before .before .before .before .before .before .before .before .args in
+returns c =
+    let at-put-hex : tie.After-put-hex = search in
+    let at-put-byte : tie.After-put-byte = search in
+    let at-put-head : tie.After-put-head = search in
+    let start : tie.Start = search in
+    let a = start .args in
     let s = a .sheet .now in
-    let h = sheet-room (a .letter) (a .out .now) s (omega arith) (c .before .before .before .before .before .before .before .before .before .before .before .before .before .before .before .before .before .before .pre) in
-    rest-last (rest-put {more = lineFeed ∷ []} (rest-byte (behind-head (a .letter) 0 (length s) (space ∷ hexOf s) h (c .before .before .before .before .before .before .before .before .before .before .before .before .before .before .put-head .ensures)) refl refl (c .before .before .before .before .before .before .before .before .before .before .put-byte .ensures)) refl (c .before .before .before .before .before .before .put-hex .ensures)) refl (c .before .before .put-byte2 .ensures)
+    let h = sheet-room (a .letter) (a .out .now) s (omega arith) (start .pre) in
+    rest-last (rest-put {more = lineFeed ∷ []}
+    (rest-byte (behind-head (a .letter) 0 (length s) (space ∷ hexOf s) h (at-put-head .put-head .ensures)) refl refl
+    (at-put-byte .put-byte .ensures)) refl (at-put-hex .put-hex .ensures)) refl (c .before .before .put-byte2 .ensures)
 
 pub put-sheet-spec : {M : Type 1} → statement M
 put-sheet-spec =

@@ -19,10 +19,15 @@ loop-holds : tie.Need-loop-holds Inv-loop μ-loop
 loop-holds c = (omega arith, rest-start _ _ _ (c .before .before .pre))
 
 put-byte-requires : tie.Need-put-byte-requires Inv-loop μ-loop
-put-byte-requires c κs = rest-byte-room (c .before .before .loop .inv .1) (tags-step (c .before .before .before .before .before .args .tags .now) (c .before .before .loop .i) (c .before .loop-test .taken))
+put-byte-requires c κs =
+    let at-loop : tie.At-loop Inv-loop μ-loop = search in
+    let start : tie.Start Inv-loop μ-loop = search in
+    rest-byte-room (at-loop .loop .inv .1) (tags-step (start .args .tags .now) (at-loop .loop .i) (c .before .loop-test .taken))
 
 mul-wide16 : tie.Need-mul-wide16 Inv-loop μ-loop
-mul-wide16 c = omega (arith, c .before .before .before .before .before .before .before .before .before .good .1 .1 .0 .1)
+mul-wide16 c =
+    let start : tie.Start Inv-loop μ-loop = search in
+    omega (arith, start .good .1 .1 .0 .1)
 
 shared-slice-read-wide16 : tie.Need-shared-slice-read-wide16 Inv-loop μ-loop
 shared-slice-read-wide16 c = omega arith
@@ -31,10 +36,17 @@ wide16-requires : tie.Need-wide16-requires Inv-loop μ-loop
 wide16-requires c κs = search needs
 
 put-decimal-requires : tie.Need-put-decimal-requires Inv-loop μ-loop
-put-decimal-requires c κs = let ts = c .before .before .before .before .before .before .before .before .before .before .before .args .tags .now in
-    let i = c .before .before .before .before .before .before .before .before .loop .i in
+put-decimal-requires c κs =
+    let at-put-byte : tie.After-put-byte Inv-loop μ-loop = search in
+    let in-loop : tie.In-loop Inv-loop μ-loop = search in
+    let at-loop : tie.At-loop Inv-loop μ-loop = search in
+    let start : tie.Start Inv-loop μ-loop = search in
+    let ts = start .args .tags .now in
+    let i = at-loop .loop .i in
     let more = tagsOf (drop (i + 1) ts) in
-    rest-room (decimal (c .wide16 .result)) more (rest-byte (c .before .before .before .before .before .before .before .before .loop .inv .1) (tags-step ts i (c .before .before .before .before .before .before .before .loop-test .taken)) refl (c .before .before .before .before .before .put-byte .ensures)) (ap (λ (n : ℕ). decimal n ++ more) (sym (c .wide16 .ensures .0)))
+    rest-room (decimal (c .wide16 .result)) more
+    (rest-byte (at-loop .loop .inv .1) (tags-step ts i (in-loop .loop-test .taken)) refl (at-put-byte .put-byte .ensures))
+    (ap (λ (n : ℕ). decimal n ++ more) (sym (c .wide16 .ensures .0)))
 
 add-i : tie.Need-add-i Inv-loop μ-loop
 add-i c = omega arith
@@ -43,10 +55,20 @@ loop-less : tie.Need-loop-less Inv-loop μ-loop
 loop-less c = omega arith
 
 loop-again : tie.Need-loop-again Inv-loop μ-loop
-loop-again c = let ts = c .before .before .before .before .before .before .before .before .before .before .before .before .before .before .args .tags .now in
-    let i = c .before .before .before .before .before .before .before .before .before .before .before .loop .i in
-    let more = tagsOf (drop (i + 1) ts) in
-    (omega arith, rest-put (rest-byte (c .before .before .before .before .before .before .before .before .before .before .before .loop .inv .1) (tags-step ts i (c .before .before .before .before .before .before .before .before .before .before .loop-test .taken)) refl (c .before .before .before .before .before .before .before .before .put-byte .ensures)) (ap (λ (n : ℕ). decimal n ++ more) (sym (c .before .before .before .wide16 .ensures .0))) (c .before .before .put-decimal .ensures))
+loop-again c =
+    let at-wide16 : tie.After-wide16 Inv-loop μ-loop = search in
+    let at-put-byte : tie.After-put-byte Inv-loop μ-loop = search in
+    let in-loop : tie.In-loop Inv-loop μ-loop = search in
+    let at-loop : tie.At-loop Inv-loop μ-loop = search in
+    let start : tie.Start Inv-loop μ-loop = search in
+    let ts = start .args .tags .now in
+    let i = at-loop .loop .i in
+    let more = tagsOf (drop (i + 1) ts) in (
+      omega arith,
+      rest-put
+          (rest-byte (at-loop .loop .inv .1) (tags-step ts i (in-loop .loop-test .taken)) refl (at-put-byte .put-byte .ensures))
+          (ap (λ (n : ℕ). decimal n ++ more) (sym (at-wide16 .wide16 .ensures .0))) (c .before .before .put-decimal .ensures),
+    )
 
 same-length : tie.Need-same-length Inv-loop μ-loop
 same-length c = c .before .loop .inv .1 .size

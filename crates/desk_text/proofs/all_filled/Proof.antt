@@ -30,7 +30,11 @@ loop-less : tie.Need-loop-less Inv-loop μ-loop
 loop-less c = omega (arith, c .before .end-of .ensures .low)
 
 loop-again : tie.Need-loop-again Inv-loop μ-loop
-loop-again c = (omega (arith, c .before .end-of .ensures .high), cc (filled-yes _ _ _ (omega arith) (c .before .end-of .ensures) (c .if1 .left)))
+loop-again c = (
+  omega (arith, c .before .end-of .ensures .high),
+  cc
+      (filled-yes _ _ _ (omega arith) (c .before .end-of .ensures) (c .if1 .left)),
+)
 
 returns-2 : tie.Need-returns-2 Inv-loop μ-loop
 returns-2 c = cc (filled-end _ _ (c .loop-test .left))

@@ -8,7 +8,8 @@ use Rattle.desk_text.proofs.count_fields.Statement.{statement}
 use Rattle.desk_text.proofs.count_fields.Tie as tie
 
 abbrev Inv-loop : tie.InvT-loop
-Inv-loop line from n₀ at₀ n at = (at ≤ length line + 1) × (n ≤ at) × (n + length (fieldsFrom line at) ≡ length (fieldsFrom line from))
+Inv-loop line from n₀ at₀ n at =
+    (at ≤ length line + 1) × (n ≤ at) × (n + length (fieldsFrom line at) ≡ length (fieldsFrom line from))
 
 abbrev μ-loop : tie.MeasureT-loop
 μ-loop line from n₀ at₀ n at = length line + 1 - at
@@ -29,10 +30,21 @@ loop-less : tie.Need-loop-less Inv-loop μ-loop
 loop-less c = omega (arith, c .end-of .ensures .low)
 
 loop-again : tie.Need-loop-again Inv-loop μ-loop
-loop-again c = (omega (arith, c .end-of .ensures .high), omega (arith, c .end-of .ensures .low), omega (arith, count-step (c .before .before .before .before .args .line .now) (c .before .before .loop .at) (c .end-of .result) (c .before .loop-test .taken) (c .end-of .ensures)))
+loop-again c =
+    let start : tie.Start Inv-loop μ-loop = search in (
+      omega (arith, c .end-of .ensures .high),
+      omega (arith, c .end-of .ensures .low),
+      omega (
+        arith,
+        count-step (start .args .line .now) (c .before .before .loop .at) (c .end-of .result) (c .before .loop-test .taken)
+            (c .end-of .ensures),
+      ),
+    )
 
 returns : tie.Need-returns Inv-loop μ-loop
-returns c = omega (arith, count-end (c .before .before .before .args .line .now) (c .before .loop .at) (c .loop-test .left))
+returns c =
+    let start : tie.Start Inv-loop μ-loop = search in
+    omega (arith, count-end (start .args .line .now) (c .before .loop .at) (c .loop-test .left))
 
 pub count-fields-spec : {M : Type 1} → statement M
 count-fields-spec =

@@ -20,7 +20,11 @@ shared-slice-read-if1 : tie.Need-shared-slice-read-if1 Inv-loop μ-loop
 shared-slice-read-if1 c = omega arith
 
 returns : tie.Need-returns Inv-loop μ-loop
-returns c = let z = upTo-here (c .before .before .before .before .args .b) (c .before .before .before .before .args .s .now) (c .before .before .before .loop .i) (c .before .before .loop-test .taken) (c .if1 .taken) in
+returns c =
+    let at-loop : tie.At-loop Inv-loop μ-loop = search in
+    let start : tie.Start Inv-loop μ-loop = search in
+    let z = upTo-here (start .args .b) (start .args .s .now) (at-loop .loop .i) (c .before .before .loop-test .taken)
+    (c .if1 .taken) in
     record { ends = omega (arith, z); low = omega arith; high = omega arith }
 
 add-i : tie.Need-add-i Inv-loop μ-loop
@@ -30,11 +34,17 @@ loop-less : tie.Need-loop-less Inv-loop μ-loop
 loop-less c = omega arith
 
 loop-again : tie.Need-loop-again Inv-loop μ-loop
-loop-again c = let z = upTo-on (c .before .before .before .before .args .b) (c .before .before .before .before .args .s .now) (c .before .before .before .loop .i) (c .before .before .loop-test .taken) (c .if1 .left) in
+loop-again c =
+    let at-loop : tie.At-loop Inv-loop μ-loop = search in
+    let start : tie.Start Inv-loop μ-loop = search in
+    let z = upTo-on (start .args .b) (start .args .s .now) (at-loop .loop .i) (c .before .before .loop-test .taken)
+    (c .if1 .left) in
     (omega arith, omega arith, omega (arith, z))
 
 returns-2 : tie.Need-returns-2 Inv-loop μ-loop
-returns-2 c = let z = upTo-end (c .before .before .args .b) (c .before .before .args .s .now) (c .before .loop .i) (c .loop-test .left) in
+returns-2 c =
+    let start : tie.Start Inv-loop μ-loop = search in
+    let z = upTo-end (start .args .b) (start .args .s .now) (c .before .loop .i) (c .loop-test .left) in
     record { ends = omega (arith, z); low = omega arith; high = omega arith }
 
 pub end-of-spec : {M : Type 1} → statement M

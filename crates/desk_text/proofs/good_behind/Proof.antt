@@ -21,19 +21,30 @@ count-fields-requires-2 : tie.Need-count-fields-requires-2
 count-fields-requires-2 c κs = search needs
 
 returns-3 : tie.Need-returns-3
-returns-3 c = behind-writes _ _ (c .before .before .before .if1 .left) (c .before .before .if2 .left) _ (c .before .if3 .taken) (c .count-fields2 .ensures)
+returns-3 c =
+    let else1 : tie.Else1 = search in
+    behind-writes _ _ (else1 .if1 .left) (c .before .before .if2 .left) _ (c .before .if3 .taken) (c .count-fields2 .ensures)
 
 takes-list-requires : tie.Need-takes-list-requires
 takes-list-requires c κs = search needs
 
 returns-4 : tie.Need-returns-4
-returns-4 c = behind-other _ _ (c .before .before .before .before .if1 .left) (c .before .before .before .if2 .left) (c .before .before .if3 .left) (sym (c .before .takes-list .ensures) ∙ not-true _ (c .if4 .taken))
+returns-4 c =
+    let else2 : tie.Else2 = search in
+    let else1 : tie.Else1 = search in
+    behind-other _ _ (else1 .if1 .left) (else2 .if2 .left) (c .before .before .if3 .left)
+    (sym (c .before .takes-list .ensures) ∙ not-true _ (c .if4 .taken))
 
 good-pairs-requires : tie.Need-good-pairs-requires
 good-pairs-requires c κs = search needs
 
 returns-5 : tie.Need-returns-5
-returns-5 c = behind-list _ _ (c .before .before .before .before .before .if1 .left) (c .before .before .before .before .if2 .left) (c .before .before .before .if3 .left) _ (sym (c .before .before .takes-list .ensures) ∙ not-false _ (c .before .if4 .left)) (c .good-pairs .ensures)
+returns-5 c =
+    let else3 : tie.Else3 = search in
+    let else2 : tie.Else2 = search in
+    let else1 : tie.Else1 = search in
+    behind-list _ _ (else1 .if1 .left) (else2 .if2 .left) (else3 .if3 .left) _
+    (sym (c .before .before .takes-list .ensures) ∙ not-false _ (c .before .if4 .left)) (c .good-pairs .ensures)
 
 pub good-behind-spec : {M : Type 1} → statement M
 good-behind-spec =

@@ -25,7 +25,11 @@ read-amount-requires : tie.Need-read-amount-requires
 read-amount-requires c κs = search needs
 
 returns-2 : tie.Need-returns-2
-returns-2 c = sym (kit-no _ _ _ (c .before .before .before .before .before .if1 .left) (c .before .before .before .before .end-of .ensures) (sym (amount-good _ _ (c .before .before .read-amount .ensures)) ∙ not-true _ (c .if2 .taken)))
+returns-2 c =
+    let at-end-of : tie.After-end-of = search in
+    let else1 : tie.Else1 = search in
+    sym (kit-no _ _ _ (else1 .if1 .left) (at-end-of .end-of .ensures)
+    (sym (amount-good _ _ (c .before .before .read-amount .ensures)) ∙ not-true _ (c .if2 .taken)))
 
 add-good-pairs : tie.Need-add-good-pairs
 add-good-pairs c = search needs
@@ -34,7 +38,13 @@ good-pairs-requires : tie.Need-good-pairs-requires
 good-pairs-requires c κs = search needs
 
 returns-3 : tie.Need-returns-3
-returns-3 c = c .good-pairs .ensures ∙ sym (kit-yes _ _ _ (c .before .before .before .before .before .before .if1 .left) (c .before .before .before .before .before .end-of .ensures) (sym (amount-good _ _ (c .before .before .before .read-amount .ensures)) ∙ not-false _ (c .before .if2 .left)))
+returns-3 c =
+    let at-read-amount : tie.After-read-amount = search in
+    let at-end-of : tie.After-end-of = search in
+    let else1 : tie.Else1 = search in
+    c .good-pairs .ensures ∙ sym
+    (kit-yes _ _ _ (else1 .if1 .left) (at-end-of .end-of .ensures)
+    (sym (amount-good _ _ (at-read-amount .read-amount .ensures)) ∙ not-false _ (c .before .if2 .left)))
 
 pub good-kit-spec : {M : Type 1} → statement M
 good-kit-spec =

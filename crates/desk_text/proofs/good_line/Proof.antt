@@ -18,13 +18,22 @@ all-filled-requires : tie.Need-all-filled-requires
 all-filled-requires c κs = search needs
 
 returns-3 : tie.Need-returns-3
-returns-3 c = sym (line-gap _ (c .before .before .before .if1 .left) (c .before .before .if2 .left) (sym (c .before .all-filled .ensures) ∙ not-true _ (c .if3 .taken)))
+returns-3 c =
+    let else1 : tie.Else1 = search in
+    sym (line-gap _ (else1 .if1 .left) (c .before .before .if2 .left)
+    (sym (c .before .all-filled .ensures) ∙ not-true _ (c .if3 .taken)))
 
 end-of-requires : tie.Need-end-of-requires
 end-of-requires c κs = search needs
 
 returns-4 : tie.Need-returns-4
-returns-4 c = sym (line-fields _ (c .before .before .before .before .before .if1 .left) (c .before .before .before .before .if2 .left) (sym (c .before .before .before .all-filled .ensures) ∙ not-false _ (c .before .before .if3 .left)) ∙ letter-other _ _ (c .before .end-of .ensures) (c .if4 .taken))
+returns-4 c =
+    let at-all-filled : tie.After-all-filled = search in
+    let else2 : tie.Else2 = search in
+    let else1 : tie.Else1 = search in
+    sym (line-fields _ (else1 .if1 .left) (else2 .if2 .left)
+    (sym (at-all-filled .all-filled .ensures) ∙ not-false _ (c .before .before .if3 .left)) ∙ letter-other _ _
+    (c .before .end-of .ensures) (c .if4 .taken))
 
 shared-slice-read-good-behind : tie.Need-shared-slice-read-good-behind
 shared-slice-read-good-behind c = search needs
@@ -33,9 +42,18 @@ good-behind-requires : tie.Need-good-behind-requires
 good-behind-requires c κs = search needs
 
 returns-5 : tie.Need-returns-5
-returns-5 c = let l = c .before .before .before .before .before .before .before .before .before .args .line .now in
-    let one = subst (λ (r : ℕ). EndOf l 0 space r) (c .before .before .if4 .left) (c .before .before .before .end-of .ensures) in
-    c .good-behind .ensures ∙ sym (line-fields l (c .before .before .before .before .before .before .before .if1 .left) (c .before .before .before .before .before .before .if2 .left) (sym (c .before .before .before .before .before .all-filled .ensures) ∙ not-false _ (c .before .before .before .before .if3 .left)) ∙ letter-one l one)
+returns-5 c =
+    let at-end-of : tie.After-end-of = search in
+    let else3 : tie.Else3 = search in
+    let at-all-filled : tie.After-all-filled = search in
+    let else2 : tie.Else2 = search in
+    let else1 : tie.Else1 = search in
+    let start : tie.Start = search in
+    let l = start .args .line .now in
+    let one = subst (λ (r : ℕ). EndOf l 0 space r) (c .before .before .if4 .left) (at-end-of .end-of .ensures) in
+    c .good-behind .ensures ∙ sym
+    (line-fields l (else1 .if1 .left) (else2 .if2 .left)
+    (sym (at-all-filled .all-filled .ensures) ∙ not-false _ (else3 .if3 .left)) ∙ letter-one l one)
 
 pub good-line-spec : {M : Type 1} → statement M
 good-line-spec =

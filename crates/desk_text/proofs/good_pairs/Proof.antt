@@ -47,15 +47,37 @@ read-amount-requires : tie.Need-read-amount-requires Inv-loop μ-loop
 read-amount-requires c κs = search needs
 
 returns-2 : tie.Need-returns-2 Inv-loop μ-loop
-returns-2 c = let g : c .before .before .before .before .before .before .end-of .result < length (c .before .before .before .before .before .before .before .before .before .before .args .line .now) = omega (arith, c .before .before .before .before .before .before .end-of .ensures .high, c .before .before .before .before .before .if1 .left) in
-    cc (pairs-no _ _ _ (c .before .before .before .before .before .before .before .loop-test .taken) (c .before .before .before .before .before .before .end-of .ensures) _ g (c .before .before .before .before .end-of2 .ensures) (sym (amount-good _ _ (c .before .before .read-amount .ensures)) ∙ not-true _ (c .if2 .taken)))
+returns-2 c =
+    let at-end-of2 : tie.After-end-of2 Inv-loop μ-loop = search in
+    let else1 : tie.Else1 Inv-loop μ-loop = search in
+    let at-end-of : tie.After-end-of Inv-loop μ-loop = search in
+    let in-loop : tie.In-loop Inv-loop μ-loop = search in
+    let start : tie.Start Inv-loop μ-loop = search in
+    let g : at-end-of .end-of .result < length (start .args .line .now) = omega
+    (arith, at-end-of .end-of .ensures .high, else1 .if1 .left) in
+    cc (pairs-no _ _ _ (in-loop .loop-test .taken) (at-end-of .end-of .ensures) _ g (at-end-of2 .end-of2 .ensures)
+    (sym (amount-good _ _ (c .before .before .read-amount .ensures)) ∙ not-true _ (c .if2 .taken)))
 
 loop-less : tie.Need-loop-less Inv-loop μ-loop
-loop-less c = omega (arith, c .before .before .before .before .end-of2 .ensures .low, c .before .before .before .before .before .before .end-of .ensures .low)
+loop-less c =
+    let at-end-of2 : tie.After-end-of2 Inv-loop μ-loop = search in
+    let at-end-of : tie.After-end-of Inv-loop μ-loop = search in
+    omega (arith, at-end-of2 .end-of2 .ensures .low, at-end-of .end-of .ensures .low)
 
 loop-again : tie.Need-loop-again Inv-loop μ-loop
-loop-again c = let g : c .before .before .before .before .before .before .end-of .result < length (c .before .before .before .before .before .before .before .before .before .before .args .line .now) = omega (arith, c .before .before .before .before .before .before .end-of .ensures .high, c .before .before .before .before .before .if1 .left) in
-    (omega (arith, c .before .before .before .before .end-of2 .ensures .high), cc (pairs-yes _ _ _ (c .before .before .before .before .before .before .before .loop-test .taken) (c .before .before .before .before .before .before .end-of .ensures) _ g (c .before .before .before .before .end-of2 .ensures) (sym (amount-good _ _ (c .before .before .read-amount .ensures)) ∙ not-false _ (c .if2 .left))))
+loop-again c =
+    let at-end-of2 : tie.After-end-of2 Inv-loop μ-loop = search in
+    let else1 : tie.Else1 Inv-loop μ-loop = search in
+    let at-end-of : tie.After-end-of Inv-loop μ-loop = search in
+    let in-loop : tie.In-loop Inv-loop μ-loop = search in
+    let start : tie.Start Inv-loop μ-loop = search in
+    let g : at-end-of .end-of .result < length (start .args .line .now) = omega
+    (arith, at-end-of .end-of .ensures .high, else1 .if1 .left) in (
+      omega (arith, at-end-of2 .end-of2 .ensures .high),
+      cc
+          (pairs-yes _ _ _ (in-loop .loop-test .taken) (at-end-of .end-of .ensures) _ g (at-end-of2 .end-of2 .ensures)
+          (sym (amount-good _ _ (c .before .before .read-amount .ensures)) ∙ not-false _ (c .if2 .left))),
+    )
 
 returns-3 : tie.Need-returns-3 Inv-loop μ-loop
 returns-3 c = cc (pairs-end _ _ (c .loop-test .left))

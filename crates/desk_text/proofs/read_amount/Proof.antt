@@ -10,13 +10,17 @@ no-amount-requires : tie.Need-no-amount-requires
 no-amount-requires c κs = search needs
 
 returns : tie.Need-returns
-returns c = let f = c .before .before .before .args .f .now in cc (no-amount-where (goodAmount f) (amountOf f) (amount-empty f (c .before .if1 .taken)))
+returns c =
+    let start : tie.Start = search in
+    let f = start .args .f .now in cc (no-amount-where (goodAmount f) (amountOf f) (amount-empty f (c .before .if1 .taken)))
 
 no-amount-requires-2 : tie.Need-no-amount-requires-2
 no-amount-requires-2 c κs = search needs
 
 returns-2 : tie.Need-returns-2
-returns-2 c = let f = c .before .before .before .before .args .f .now in cc (no-amount-where (goodAmount f) (amountOf f) (amount-long f (c .before .if2 .taken)))
+returns-2 c =
+    let start : tie.Start = search in
+    let f = start .args .f .now in cc (no-amount-where (goodAmount f) (amountOf f) (amount-long f (c .before .if2 .taken)))
 
 leading-zero-requires : tie.Need-leading-zero-requires
 leading-zero-requires c κs = omega arith
@@ -25,13 +29,26 @@ no-amount-requires-3 : tie.Need-no-amount-requires-3
 no-amount-requires-3 c κs = search needs
 
 returns-3 : tie.Need-returns-3
-returns-3 c = let f = c .before .before .before .before .before .before .args .f .now in cc (no-amount-where (goodAmount f) (amountOf f) (amount-zero f (c .before .before .before .before .if1 .left) (c .before .before .before .if2 .left) (sym (c .before .before .leading-zero .ensures) ∙ c .before .if3 .taken)))
+returns-3 c =
+    let else2 : tie.Else2 = search in
+    let else1 : tie.Else1 = search in
+    let start : tie.Start = search in
+    let f = start .args .f .now in
+    cc (no-amount-where (goodAmount f) (amountOf f)
+    (amount-zero f (else1 .if1 .left) (else2 .if2 .left)
+    (sym (c .before .before .leading-zero .ensures) ∙ c .before .if3 .taken)))
 
 read-digits-requires : tie.Need-read-digits-requires
 read-digits-requires c κs = search needs
 
 returns-4 : tie.Need-returns-4
-returns-4 c = let f = c .before .before .before .before .before .before .args .f .now in cc (amount-small f (c .before .before .before .before .if1 .left) (c .before .before .before .if2 .left) (sym (c .before .before .leading-zero .ensures) ∙ c .before .if3 .left))
+returns-4 c =
+    let else2 : tie.Else2 = search in
+    let else1 : tie.Else1 = search in
+    let start : tie.Start = search in
+    let f = start .args .f .now in
+    cc (amount-small f (else1 .if1 .left) (else2 .if2 .left)
+    (sym (c .before .before .leading-zero .ensures) ∙ c .before .if3 .left))
 
 pub read-amount-spec : {M : Type 1} → statement M
 read-amount-spec =

@@ -13,7 +13,8 @@ use Rattle.desk_text.proofs.read_digits.Statement.{statement}
 use Rattle.desk_text.proofs.read_digits.Tie as tie
 
 abbrev Inv-loop : tie.InvT-loop
-Inv-loop f v₀ i₀ v i = (i ≤ length f) × (v ≤ largestAmount) × (allb isDigit (drop i f) ≡ allb isDigit f) × (spelt v (drop i f) ≡ amountOf f)
+Inv-loop f v₀ i₀ v i =
+    (i ≤ length f) × (v ≤ largestAmount) × (allb isDigit (drop i f) ≡ allb isDigit f) × (spelt v (drop i f) ≡ amountOf f)
 
 abbrev μ-loop : tie.MeasureT-loop
 μ-loop f v₀ i₀ v i = length f - i
@@ -32,8 +33,14 @@ no-amount-requires : tie.Need-no-amount-requires Inv-loop μ-loop
 no-amount-requires c κs = search needs
 
 returns : tie.Need-returns Inv-loop μ-loop
-returns c = let f = c .before .before .before .before .before .before .before .args .f .now in
-    let e : allb isDigit f ≡ false = cc (allb-no isDigit f (c .before .before .before .before .before .loop .i) (c .before .before .before .before .loop-test .taken) (sym (c .before .before .is-digit .ensures) ∙ not-true _ (c .before .if1 .taken))) in
+returns c =
+    let in-loop : tie.In-loop Inv-loop μ-loop = search in
+    let at-loop : tie.At-loop Inv-loop μ-loop = search in
+    let start : tie.Start Inv-loop μ-loop = search in
+    let f = start .args .f .now in
+    let e : allb isDigit f ≡ false = cc
+    (allb-no isDigit f (at-loop .loop .i) (in-loop .loop-test .taken)
+    (sym (c .before .before .is-digit .ensures) ∙ not-true _ (c .before .if1 .taken))) in
     cc (no-amount-where (small f) (amountOf f) (small-other f e))
 
 mul-v : tie.Need-mul-v Inv-loop μ-loop
@@ -46,7 +53,9 @@ wide8-requires-2 : tie.Need-wide8-requires-2 Inv-loop μ-loop
 wide8-requires-2 c κs = search needs
 
 sub-v : tie.Need-sub-v Inv-loop μ-loop
-sub-v c = omega (arith, digit-least _ (sym (c .before .before .before .is-digit .ensures) ∙ not-false _ (c .before .before .if1 .left)))
+sub-v c =
+    let at-is-digit : tie.After-is-digit Inv-loop μ-loop = search in
+    omega (arith, digit-least _ (sym (at-is-digit .is-digit .ensures) ∙ not-false _ (c .before .before .if1 .left)))
 
 add-v : tie.Need-add-v Inv-loop μ-loop
 add-v c = omega arith
@@ -58,33 +67,48 @@ no-amount-requires-2 : tie.Need-no-amount-requires-2 Inv-loop μ-loop
 no-amount-requires-2 c κs = search needs
 
 returns-2 : tie.Need-returns-2 Inv-loop μ-loop
-returns-2 c = let f = c .before .before .before .before .before .before .before .before .before .before .args .f .now in
-    let v = c .before .before .before .before .before .before .before .before .loop .v in
-    let i = c .before .before .before .before .before .before .before .before .loop .i in
-    let s = spelt-step v f i (c .before .before .before .before .before .before .before .loop-test .taken) in
+returns-2 c =
+    let in-loop : tie.In-loop Inv-loop μ-loop = search in
+    let at-loop : tie.At-loop Inv-loop μ-loop = search in
+    let start : tie.Start Inv-loop μ-loop = search in
+    let f = start .args .f .now in
+    let v = at-loop .loop .v in
+    let i = at-loop .loop .i in
+    let s = spelt-step v f i (in-loop .loop-test .taken) in
     let g = spelt-grows (v * 10 + (getD f i 0 - 48)) (drop (i + 1) f) in
-    let o : largestAmount < amountOf f = omega (arith, s, c .before .before .before .before .before .before .before .before .loop .inv .3) in
+    let o : largestAmount < amountOf f = omega (arith, s, at-loop .loop .inv .3) in
     cc (no-amount-where (small f) (amountOf f) (small-over f o))
 
 loop-less : tie.Need-loop-less Inv-loop μ-loop
 loop-less c = omega arith
 
 loop-again : tie.Need-loop-again Inv-loop μ-loop
-loop-again c = let f = c .before .before .before .before .before .before .before .before .before .args .f .now in
-    let v = c .before .before .before .before .before .before .before .loop .v in
-    let i = c .before .before .before .before .before .before .before .loop .i in
-    let s = spelt-step v f i (c .before .before .before .before .before .before .loop-test .taken) in
-    let y = allb-yes isDigit f i (c .before .before .before .before .before .before .loop-test .taken) (sym (c .before .before .before .before .is-digit .ensures) ∙ not-false _ (c .before .before .before .if1 .left)) in
+loop-again c =
+    let else1 : tie.Else1 Inv-loop μ-loop = search in
+    let at-is-digit : tie.After-is-digit Inv-loop μ-loop = search in
+    let in-loop : tie.In-loop Inv-loop μ-loop = search in
+    let at-loop : tie.At-loop Inv-loop μ-loop = search in
+    let start : tie.Start Inv-loop μ-loop = search in
+    let f = start .args .f .now in
+    let v = at-loop .loop .v in
+    let i = at-loop .loop .i in
+    let s = spelt-step v f i (in-loop .loop-test .taken) in
+    let y = allb-yes isDigit f i (in-loop .loop-test .taken)
+    (sym (at-is-digit .is-digit .ensures) ∙ not-false _ (else1 .if1 .left)) in
     (omega arith, omega arith, cc, cc)
 
 amount-of-requires : tie.Need-amount-of-requires Inv-loop μ-loop
 amount-of-requires c κs = omega arith
 
 returns-3 : tie.Need-returns-3 Inv-loop μ-loop
-returns-3 c = let f = c .before .before .before .before .args .f .now in
-    let i = c .before .before .loop .i in
-    let a : allb isDigit f ≡ true = sym (c .before .before .loop .inv .2) ∙ allb-end isDigit f i (c .before .loop-test .left) in
-    let z : amountOf f ≡ c .before .before .loop .v = sym (c .before .before .loop .inv .3) ∙ spelt-end (c .before .before .loop .v) f i (c .before .loop-test .left) in
+returns-3 c =
+    let at-loop : tie.At-loop Inv-loop μ-loop = search in
+    let start : tie.Start Inv-loop μ-loop = search in
+    let f = start .args .f .now in
+    let i = at-loop .loop .i in
+    let a : allb isDigit f ≡ true = sym (at-loop .loop .inv .2) ∙ allb-end isDigit f i (c .before .loop-test .left) in
+    let z : amountOf f ≡ at-loop .loop .v = sym (at-loop .loop .inv .3) ∙ spelt-end (at-loop .loop .v) f i
+    (c .before .loop-test .left) in
     let s = small-yes f a (omega arith) in
     cc
 

@@ -66,8 +66,10 @@ loop-less c = search needs
 
 loop-again : tie.Need-loop-again Inv-loop μ-loop
 loop-again c =
-    let k = c .before .before .before .before .before .before .before .before .before .before .before .serve-one .kept in
-    let i = c .before .before .before .before .before .before .before .before .before .before .before .before .before .before .before .before .before .before .before .before .before .before .before .loop .inv in (
+    let at-serve-one : tie.After-serve-one Inv-loop μ-loop = search in
+    let at-loop : tie.At-loop Inv-loop μ-loop = search in
+    let k = at-serve-one .serve-one .kept in
+    let i = at-loop .loop .inv in (
       k .0 ∙ i .0,
       k .1 .0 ∙ i .1,
       k .1 .1 .0 ∙ i .2,

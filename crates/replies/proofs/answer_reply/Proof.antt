@@ -118,13 +118,22 @@ returns-3 : tie.Need-returns-3
 returns-3 c = search needs
 
 returns-4 : tie.Need-returns-4
-returns-4 c = subst (Means _) (ap (paper.refused 4) (c .before .line-value .ensures) ∙ sym (ap reply (c .before .before .before .a2 .given .1))) (c .refused3 .ensures)
+returns-4 c =
+    let at-a2 : tie.After-a2 = search in
+    subst (Means _) (ap (paper.refused 4) (c .before .line-value .ensures) ∙ sym (ap reply (at-a2 .a2 .given .1)))
+    (c .refused3 .ensures)
 
 returns-5 : tie.Need-returns-5
-returns-5 c = subst (Means _) (ap (paper.refused 5) (c .before .line-value2 .ensures) ∙ sym (ap reply (c .before .before .before .a3 .given .1))) (c .refused4 .ensures)
+returns-5 c =
+    let at-a3 : tie.After-a3 = search in
+    subst (Means _) (ap (paper.refused 5) (c .before .line-value2 .ensures) ∙ sym (ap reply (at-a3 .a3 .given .1)))
+    (c .refused4 .ensures)
 
 returns-6 : tie.Need-returns-6
-returns-6 c = subst (Means _) (ap (paper.refused 6) (c .before .line-value3 .ensures) ∙ sym (ap reply (c .before .before .before .a4 .given .1))) (c .refused5 .ensures)
+returns-6 c =
+    let at-a4 : tie.After-a4 = search in
+    subst (Means _) (ap (paper.refused 6) (c .before .line-value3 .ensures) ∙ sym (ap reply (at-a4 .a4 .given .1)))
+    (c .refused5 .ensures)
 
 returns-7 : tie.Need-returns-7
 returns-7 c = search needs
