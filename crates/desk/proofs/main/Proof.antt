@@ -46,14 +46,21 @@ slice-aggregate-serve-7 : tie.Need-slice-aggregate-serve-7
 slice-aggregate-serve-7 c = search needs
 
 serve-requires : tie.Need-serve-requires
-serve-requires c κs = (
-  keeps-none _ (c .before .before .before .before .before .before .before .before .line-room .ensures),
-  record {
-    ready =
-        c .before .before .before .before .before .before .before .before .before .before .before .before .before .empty-register .ensures .1;
-    room = room-enough _ _ _ (c .before .before .before .before .before .before .before .before .before .before .before .output-places .ensures) (c .before .before .before .before .before .before .before .before .before .before .sheet-room .ensures) (c .before .before .before .before .before .before .before .before .before .reply-room .ensures);
-  },
-)
+serve-requires c κs =
+    let at-line-room : tie.After-line-room = search in
+    let at-reply-room : tie.After-reply-room = search in
+    let at-sheet-room : tie.After-sheet-room = search in
+    let at-output-places : tie.After-output-places = search in
+    let at-empty-register : tie.After-empty-register = search in (
+      keeps-none _ (at-line-room .line-room .ensures),
+      record {
+        ready =
+            at-empty-register .empty-register .ensures .1;
+        room =
+            room-enough _ _ _ (at-output-places .output-places .ensures) (at-sheet-room .sheet-room .ensures)
+            (at-reply-room .reply-room .ensures);
+      },
+    )
 
 returns : tie.Need-returns
 returns c = search needs

@@ -11,16 +11,18 @@ answer-line-requires c κs = search needs
 
 slice-reshare-prefix-write-all : tie.Need-slice-reshare-prefix-write-all
 slice-reshare-prefix-write-all c =
+    let at-answer-line : tie.After-answer-line = search in
     reply-inside _ _ _ _ _
-    (c .before .before .before .before .before .before .before .before .before .before .answer-line .ensures .0)
-    (c .before .before .before .before .before .before .before .before .before .before .answer-line .kept .1 .1 .1 .1 .1 .0)
+    (at-answer-line .answer-line .ensures .0)
+    (at-answer-line .answer-line .kept .1 .1 .1 .1 .1 .0)
 
 slice-aggregate-write-all : tie.Need-slice-aggregate-write-all
 slice-aggregate-write-all c =
+    let at-answer-line : tie.After-answer-line = search in
     sym (length-take-le _ _
     (reply-inside _ _ _ _ _
-    (c .before .before .before .before .before .before .before .before .before .before .before .answer-line .ensures .0)
-    (c .before .before .before .before .before .before .before .before .before .before .before .answer-line .kept .1 .1 .1 .1 .1 .0)))
+    (at-answer-line .answer-line .ensures .0)
+    (at-answer-line .answer-line .kept .1 .1 .1 .1 .1 .0)))
 
 write-all-requires : tie.Need-write-all-requires
 write-all-requires c κs = search needs
@@ -42,13 +44,15 @@ same-length-5 c = search needs
 
 returns : tie.Need-returns
 returns c =
-    let k = c .before .before .before .before .before .before .before .before .before .before .before .before .answer-line .kept in (
+    let at-answer-line : tie.After-answer-line = search in
+    let start : tie.Start = search in
+    let k = at-answer-line .answer-line .kept in (
       record {
         ready =
-            c .before .before .before .before .before .before .before .before .before .before .before .before .answer-line .ensures .1 .0;
-        room = room-kept _ _ _ _ _ _ (c .before .before .before .before .before .before .before .before .before .before .before .before .before .before .before .before .before .before .before .before .before .before .before .before .pre .room) (k .1 .1 .1 .0) (k .1 .1 .1 .1 .0) (k .1 .1 .1 .1 .1 .0);
+            at-answer-line .answer-line .ensures .1 .0;
+        room = room-kept _ _ _ _ _ _ (start .pre .room) (k .1 .1 .1 .0) (k .1 .1 .1 .1 .0) (k .1 .1 .1 .1 .1 .0);
       },
-      c .before .before .before .before .before .before .before .before .before .before .before .before .answer-line .ensures .0 .left
+      at-answer-line .answer-line .ensures .0 .left
           ∙ left-by _ _ _ _,
     )
 

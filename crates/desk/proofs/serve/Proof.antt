@@ -22,14 +22,15 @@ abbrev μ-loop : tie.MeasureT-loop
     turns
 
 loop-holds : tie.Need-loop-holds Inv-loop μ-loop
-loop-holds c = (
-  c .before .before .before .before .before .before .before .pre .0,
-  c .before .before .before .before .before .before .before .pre .1,
-  none-read _ _,
-  same-start _ _ _ _ _,
-  refl,
-  refl,
-)
+loop-holds c =
+    let start : tie.Start Inv-loop μ-loop = search in (
+      start .pre .0,
+      start .pre .1,
+      none-read _ _,
+      same-start _ _ _ _ _,
+      refl,
+      refl,
+    )
 
 read-requires : tie.Need-read-requires Inv-loop μ-loop
 read-requires c κs = search needs
@@ -45,7 +46,8 @@ slice-aggregate-take-piece c = search needs
 
 take-piece-requires : tie.Need-take-piece-requires Inv-loop μ-loop
 take-piece-requires c κs =
-    (c .before .before .before .before .before .before .before .before .before .before .before .before .before .before .loop .inv .0, c .before .before .before .before .before .before .before .before .before .before .before .before .before .before .loop .inv .1)
+    let at-loop : tie.At-loop Inv-loop μ-loop = search in
+    (at-loop .loop .inv .0, at-loop .loop .inv .1)
 
 turns-left-requires : tie.Need-turns-left-requires Inv-loop μ-loop
 turns-left-requires c κs = search needs
@@ -55,13 +57,16 @@ loop-less c = search needs
 
 loop-again : tie.Need-loop-again Inv-loop μ-loop
 loop-again c =
-    let i = c .before .before .before .before .before .before .before .before .before .before .before .before .before .before .before .before .before .before .before .before .before .before .before .before .before .before .before .before .loop .inv in
-    let k = c .before .before .before .before .before .before .before .before .before .before .before .before .before .take-piece .kept in
+    let at-take-piece : tie.After-take-piece Inv-loop μ-loop = search in
+    let at-read : tie.After-read Inv-loop μ-loop = search in
+    let at-loop : tie.At-loop Inv-loop μ-loop = search in
+    let i = at-loop .loop .inv in
+    let k = at-take-piece .take-piece .kept in
     let m = i .3 in (
-      c .before .before .before .before .before .before .before .before .before .before .before .before .before .take-piece .ensures .0 .keeps,
-      c .before .before .before .before .before .before .before .before .before .before .before .before .before .take-piece .ensures .1,
+      at-take-piece .take-piece .ensures .0 .keeps,
+      at-take-piece .take-piece .ensures .1,
       more-read (i .2) _ _ _ _
-          (c .before .before .before .before .before .before .before .before .before .before .before .before .before .take-piece .ensures .0),
+          (at-take-piece .take-piece .ensures .0),
       record {
         register =
             k .1 .1 .1 .0 ∙ m .register;
@@ -72,7 +77,7 @@ loop-again c =
         out = k .1 .1 .1 .1 .1 .1 .1 .0 ∙ m .out;
       },
       k .1 .0 ∙ i .4,
-      c .before .before .before .before .before .before .before .before .before .before .before .before .before .before .before .before .before .before .before .before .before .before .before .before .before .read .kept .1 .0 ∙ i .5,
+      at-read .read .kept .1 .0 ∙ i .5,
     )
 
 same-length : tie.Need-same-length Inv-loop μ-loop
@@ -103,10 +108,14 @@ slice-reshare-prefix-reply-to : tie.Need-slice-reshare-prefix-reply-to Inv-loop 
 slice-reshare-prefix-reply-to c = c .before .before .loop .inv .0 .inside
 
 slice-aggregate-reply-to : tie.Need-slice-aggregate-reply-to Inv-loop μ-loop
-slice-aggregate-reply-to c = sym (length-take-le _ _ (c .before .before .before .loop .inv .0 .inside))
+slice-aggregate-reply-to c =
+    let at-loop : tie.At-loop Inv-loop μ-loop = search in
+    sym (length-take-le _ _ (at-loop .loop .inv .0 .inside))
 
 reply-to-requires : tie.Need-reply-to-requires Inv-loop μ-loop
-reply-to-requires c κs = c .before .before .before .before .before .before .before .before .loop .inv .1
+reply-to-requires c κs =
+    let at-loop : tie.At-loop Inv-loop μ-loop = search in
+    at-loop .loop .inv .1
 
 same-length-8 : tie.Need-same-length-8 Inv-loop μ-loop
 same-length-8 c = search needs
@@ -131,7 +140,10 @@ same-length-14 c = search needs
 
 returns-2 : tie.Need-returns-2 Inv-loop μ-loop
 returns-2 c =
-    line-left (c .before .before .before .before .before .before .before .before .before .before .before .before .before .before .before .before .before .before .before .loop .inv .2) _ (c .before .before .before .before .before .before .before .before .before .before .before .before .before .before .before .before .before .if1 .left) (c .before .before .before .before .before .before .before .before .before .before .before .before .before .before .before .before .before .before .before .loop .inv .0 .inside) (c .before .before .before .before .before .before .before .before .before .before .reply-to .ensures .1)
+    let at-reply-to : tie.After-reply-to Inv-loop μ-loop = search in
+    let else1 : tie.Else1 Inv-loop μ-loop = search in
+    let at-loop : tie.At-loop Inv-loop μ-loop = search in
+    line-left (at-loop .loop .inv .2) _ (else1 .if1 .left) (at-loop .loop .inv .0 .inside) (at-reply-to .reply-to .ensures .1)
 
 pub serve-spec : {M : Type 1} → statement M
 serve-spec =

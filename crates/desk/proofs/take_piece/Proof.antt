@@ -20,11 +20,12 @@ abbrev μ-loop : tie.MeasureT-loop
     length piece - at
 
 loop-holds : tie.Need-loop-holds Inv-loop μ-loop
-loop-holds c = (
-  starts _ _ _ _ _ _ _ (c .before .before .before .before .before .before .before .pre .0)
-      (c .before .before .before .before .before .before .before .pre .1),
-  same-start _ _ _ _ _,
-)
+loop-holds c =
+    let start : tie.Start Inv-loop μ-loop = search in (
+      starts _ _ _ _ _ _ _ (start .pre .0)
+          (start .pre .1),
+      same-start _ _ _ _ _,
+    )
 
 end-of-requires : tie.Need-end-of-requires Inv-loop μ-loop
 end-of-requires c κs = search needs
@@ -60,27 +61,35 @@ same-length-6 : tie.Need-same-length-6 Inv-loop μ-loop
 same-length-6 c = search needs
 
 returns : tie.Need-returns Inv-loop μ-loop
-returns c = (
-  line-goes-on (c .before .before .before .before .before .before .before .before .loop .inv .0) _ _ _
-      (c .before .before .before .before .before .before .end-of .ensures) (c .before .before .before .keep-more .ensures)
-      (c .if1 .taken),
-  c .before .before .before .before .before .before .before .before .loop .inv .0 .hand,
-)
+returns c =
+    let at-keep-more : tie.After-keep-more Inv-loop μ-loop = search in
+    let at-end-of : tie.After-end-of Inv-loop μ-loop = search in
+    let at-loop : tie.At-loop Inv-loop μ-loop = search in (
+      line-goes-on (at-loop .loop .inv .0) _ _ _
+          (at-end-of .end-of .ensures) (at-keep-more .keep-more .ensures)
+          (c .if1 .taken),
+      at-loop .loop .inv .0 .hand,
+    )
 
 slice-reshare-prefix-reply-to : tie.Need-slice-reshare-prefix-reply-to Inv-loop μ-loop
 slice-reshare-prefix-reply-to c =
-    kept-inside _ _ _ _ _ (c .before .before .before .before .before .before .before .before .loop .inv .0 .keeps)
-    (c .before .before .before .keep-more .ensures)
+    let at-keep-more : tie.After-keep-more Inv-loop μ-loop = search in
+    let at-loop : tie.At-loop Inv-loop μ-loop = search in
+    kept-inside _ _ _ _ _ (at-loop .loop .inv .0 .keeps)
+    (at-keep-more .keep-more .ensures)
 
 slice-aggregate-reply-to : tie.Need-slice-aggregate-reply-to Inv-loop μ-loop
 slice-aggregate-reply-to c =
+    let at-keep-more : tie.After-keep-more Inv-loop μ-loop = search in
+    let at-loop : tie.At-loop Inv-loop μ-loop = search in
     sym (length-take-le _ _
-    (kept-inside _ _ _ _ _ (c .before .before .before .before .before .before .before .before .before .loop .inv .0 .keeps)
-    (c .before .before .before .before .keep-more .ensures)))
+    (kept-inside _ _ _ _ _ (at-loop .loop .inv .0 .keeps)
+    (at-keep-more .keep-more .ensures)))
 
 reply-to-requires : tie.Need-reply-to-requires Inv-loop μ-loop
 reply-to-requires c κs =
-    c .before .before .before .before .before .before .before .before .before .before .before .before .before .before .loop .inv .0 .hand
+    let at-loop : tie.At-loop Inv-loop μ-loop = search in
+    at-loop .loop .inv .0 .hand
 
 add-at : tie.Need-add-at Inv-loop μ-loop
 add-at c = search needs
@@ -89,10 +98,19 @@ loop-less : tie.Need-loop-less Inv-loop μ-loop
 loop-less c = search needs
 
 loop-again : tie.Need-loop-again Inv-loop μ-loop
-loop-again c = let k = c .before .before .before .before .before .before .before .before .before .before .reply-to .kept in
-    let m = c .before .before .before .before .before .before .before .before .before .before .before .before .before .before .before .before .before .before .before .before .before .before .before .before .before .loop .inv .1 in
-    let h : c .before .before .before .before .before .before .before .before .before .before .before .before .before .before .before .before .before .before .before .before .before .before .before .end-of .result < length (c .before .before .before .before .before .before .before .before .before .before .before .before .before .before .before .before .before .before .before .before .before .before .before .before .before .before .before .before .before .before .before .before .before .args .piece .now) = omega (arith, c .before .before .before .before .before .before .before .before .before .before .before .before .before .before .before .before .before .before .before .before .before .before .before .end-of .ensures .high, c .before .before .before .before .before .before .before .before .before .before .before .before .before .before .before .before .before .if1 .left) in (
-      line-ends (c .before .before .before .before .before .before .before .before .before .before .before .before .before .before .before .before .before .before .before .before .before .before .before .before .before .loop .inv .0) _ _ _ (c .before .before .before .before .before .before .before .before .before .before .before .before .before .before .before .before .before .before .before .before .before .before .before .end-of .ensures) (c .before .before .before .before .before .before .before .before .before .before .before .before .before .before .before .before .before .before .before .before .keep-more .ensures) _ _ _ _ h (c .before .before .before .before .before .before .before .before .before .before .reply-to .ensures .0) (c .before .before .before .before .before .before .before .before .before .before .reply-to .ensures .1),
+loop-again c =
+    let start : tie.Start Inv-loop μ-loop = search in
+    let at-reply-to : tie.After-reply-to Inv-loop μ-loop = search in
+    let else1 : tie.Else1 Inv-loop μ-loop = search in
+    let at-keep-more : tie.After-keep-more Inv-loop μ-loop = search in
+    let at-end-of : tie.After-end-of Inv-loop μ-loop = search in
+    let at-loop : tie.At-loop Inv-loop μ-loop = search in
+    let k = at-reply-to .reply-to .kept in
+    let m = at-loop .loop .inv .1 in
+    let h : at-end-of .end-of .result < length (start .args .piece .now) = omega
+    (arith, at-end-of .end-of .ensures .high, else1 .if1 .left) in (
+      line-ends (at-loop .loop .inv .0) _ _ _ (at-end-of .end-of .ensures) (at-keep-more .keep-more .ensures) _ _ _ _ h
+          (at-reply-to .reply-to .ensures .0) (at-reply-to .reply-to .ensures .1),
       record {
         register =
             k .1 .0 ∙ m .register;

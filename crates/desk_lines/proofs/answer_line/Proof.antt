@@ -19,13 +19,17 @@ same-length : tie.Need-same-length
 same-length c = search needs
 
 returns : tie.Need-returns
-returns c = let a = c .before .before .before .before .before .before .before .before .before .before .before .before .args in
+returns c =
+    let then1 : tie.Then1 = search in
+    let at-good-line : tie.After-good-line = search in
+    let start : tie.Start = search in
+    let a = start .args in
     let t = tables (a .reg .now) (a .nodes .now) in
-    let g = sym (c .before .before .before .before .before .good-line .ensures) ∙ not-true _
-    (c .before .before .before .before .if1 .taken) in (
+    let g = sym (at-good-line .good-line .ensures) ∙ not-true _
+    (then1 .if1 .taken) in (
       other-answers (a .line .now) (a .places .now) (a .sheet .now) t t g (c .before .before .put-other .ensures),
       (
-        c .before .before .before .before .before .before .before .before .before .before .before .before .pre .0,
+        start .pre .0,
         other-outputs
             (a .line .now) (a .places .now) (a .sheet .now) t g,
       ),
@@ -35,18 +39,22 @@ shared-slice-read-letter : tie.Need-shared-slice-read-letter
 shared-slice-read-letter c = line-some _ (sym (c .before .before .good-line .ensures) ∙ not-false _ (c .before .if1 .left))
 
 register-line-requires : tie.Need-register-line-requires
-register-line-requires c κs = (
-  record {
-    good = sym (c .before .before .before .before .before .before .good-line .ensures) ∙ not-false _
-        (c .before .before .before .before .before .if1 .left);
-    letter = c .before .before .before .if2 .taken;
-  },
-  (
-    c .before .before .before .before .before .before .before .before .before .before .before .before .before .pre .0,
-    omega
-        (arith, c .before .before .before .before .before .before .before .before .before .before .before .before .before .pre .1 .written),
-  ),
-)
+register-line-requires c κs =
+    let then2 : tie.Then2 = search in
+    let else1 : tie.Else1 = search in
+    let at-good-line : tie.After-good-line = search in
+    let start : tie.Start = search in (
+      record {
+        good = sym (at-good-line .good-line .ensures) ∙ not-false _
+            (else1 .if1 .left);
+        letter = then2 .if2 .taken;
+      },
+      (
+        start .pre .0,
+        omega
+            (arith, start .pre .1 .written),
+      ),
+    )
 
 same-length-2 : tie.Need-same-length-2
 same-length-2 c = search needs
@@ -59,32 +67,41 @@ same-length-4 c = search needs
 
 returns-2 : tie.Need-returns-2
 returns-2 c =
-    let a = c .before .before .before .before .before .before .before .before .before .before .before .before .before .before .before .before .before .before .args in
+    let at-register-line : tie.After-register-line = search in
+    let then2 : tie.Then2 = search in
+    let else1 : tie.Else1 = search in
+    let at-good-line : tie.After-good-line = search in
+    let start : tie.Start = search in
+    let a = start .args in
     let t = tables (a .reg .now) (a .nodes .now) in
-    let g = sym (c .before .before .before .before .before .before .before .before .before .before .before .good-line .ensures)
-    ∙ not-false _ (c .before .before .before .before .before .before .before .before .before .before .if1 .left) in
-    let e = c .before .before .before .before .before .before .before .before .if2 .taken in (
+    let g = sym (at-good-line .good-line .ensures)
+    ∙ not-false _ (else1 .if1 .left) in
+    let e = then2 .if2 .taken in (
       register-answers (a .line .now) (a .places .now) (a .sheet .now) t _ g e
-          (c .before .before .before .before .register-line .ensures .0),
+          (at-register-line .register-line .ensures .0),
       (
-        c .before .before .before .before .register-line .ensures .1,
+        at-register-line .register-line .ensures .1,
         register-outputs (a .line .now) (a .places .now)
             (a .sheet .now) t g e,
       ),
     )
 
 insert-line-requires : tie.Need-insert-line-requires
-insert-line-requires c κs = (
-  record {
-    good = sym (c .before .before .before .before .before .before .before .good-line .ensures) ∙ not-false _
-        (c .before .before .before .before .before .before .if1 .left);
-    letter = c .before .before .before .if3 .taken;
-  },
-  (
-    c .before .before .before .before .before .before .before .before .before .before .before .before .before .before .pre .0,
-    omega (arith, c .before .before .before .before .before .before .before .before .before .before .before .before .before .before .pre .1 .written),
-  ),
-)
+insert-line-requires c κs =
+    let then3 : tie.Then3 = search in
+    let else1 : tie.Else1 = search in
+    let at-good-line : tie.After-good-line = search in
+    let start : tie.Start = search in (
+      record {
+        good = sym (at-good-line .good-line .ensures) ∙ not-false _
+            (else1 .if1 .left);
+        letter = then3 .if3 .taken;
+      },
+      (
+        start .pre .0,
+        omega (arith, start .pre .1 .written),
+      ),
+    )
 
 same-length-5 : tie.Need-same-length-5
 same-length-5 c = search needs
@@ -97,14 +114,20 @@ same-length-7 c = search needs
 
 returns-3 : tie.Need-returns-3
 returns-3 c =
-    let a = c .before .before .before .before .before .before .before .before .before .before .before .before .before .before .before .before .before .before .before .args in
+    let at-insert-line : tie.After-insert-line = search in
+    let then3 : tie.Then3 = search in
+    let else2 : tie.Else2 = search in
+    let else1 : tie.Else1 = search in
+    let at-good-line : tie.After-good-line = search in
+    let start : tie.Start = search in
+    let a = start .args in
     let t = tables (a .reg .now) (a .nodes .now) in
-    let g = sym (c .before .before .before .before .before .before .before .before .before .before .before .before .good-line .ensures) ∙ not-false _ (c .before .before .before .before .before .before .before .before .before .before .before .if1 .left) in
-    let n1 = c .before .before .before .before .before .before .before .before .before .if2 .left in
-    let e = c .before .before .before .before .before .before .before .before .if3 .taken in (
+    let g = sym (at-good-line .good-line .ensures) ∙ not-false _ (else1 .if1 .left) in
+    let n1 = else2 .if2 .left in
+    let e = then3 .if3 .taken in (
       insert-answers (a .line .now) (a .places .now) (a .sheet .now) t _ g n1 e
-          (c .before .before .before .before .insert-line .ensures),
-      (c .before .before .before .before .before .before .before .before .before .before .before .before .before .before .before .before .before .before .before .pre .0, insert-outputs (a .line .now) (a .places .now) (a .sheet .now) t g n1 e),
+          (at-insert-line .insert-line .ensures),
+      (start .pre .0, insert-outputs (a .line .now) (a .places .now) (a .sheet .now) t g n1 e),
     )
 
 write-line-requires : tie.Need-write-line-requires
@@ -124,22 +147,41 @@ same-length-11 c = search needs
 
 returns-4 : tie.Need-returns-4
 returns-4 c =
-    let a = c .before .before .before .before .before .before .before .before .before .before .before .before .before .before .before .before .before .before .before .before .before .args in
+    let at-write-line : tie.After-write-line = search in
+    let then4 : tie.Then4 = search in
+    let else3 : tie.Else3 = search in
+    let else2 : tie.Else2 = search in
+    let else1 : tie.Else1 = search in
+    let at-good-line : tie.After-good-line = search in
+    let start : tie.Start = search in
+    let a = start .args in
     let t = tables (a .reg .now) (a .nodes .now) in
-    let g = sym (c .before .before .before .before .before .before .before .before .before .before .before .before .before .before .good-line .ensures) ∙ not-false _ (c .before .before .before .before .before .before .before .before .before .before .before .before .before .if1 .left) in
-    let n1 = c .before .before .before .before .before .before .before .before .before .before .before .if2 .left in
-    let n2 = c .before .before .before .before .before .before .before .before .before .before .if3 .left in
-    let e = c .before .before .before .before .before .before .before .before .before .if4 .taken in (
+    let g = sym (at-good-line .good-line .ensures) ∙ not-false _ (else1 .if1 .left) in
+    let n1 = else2 .if2 .left in
+    let n2 = else3 .if3 .left in
+    let e = then4 .if4 .taken in (
       write-answers (a .line .now) (a .places .now) (a .sheet .now) t t g n1 n2 e
-          (c .before .before .before .before .write-line .ensures .0),
-      (c .before .before .before .before .before .before .before .before .before .before .before .before .before .before .before .before .before .before .before .before .before .pre .0, write-outputs (a .line .now) (a .places .now) (a .sheet .now) t g n1 n2 _ e (c .before .before .before .before .write-line .ensures .1)),
+          (at-write-line .write-line .ensures .0),
+      (
+        start .pre .0,
+        write-outputs (a .line .now) (a .places .now) (a .sheet .now) t g n1 n2 _ e
+            (at-write-line .write-line .ensures .1),
+      ),
     )
 
 ask-line-requires : tie.Need-ask-line-requires
 ask-line-requires c κs =
-    let g = sym (c .before .before .before .before .before .before .before .before .before .good-line .ensures) ∙ not-false _
-    (c .before .before .before .before .before .before .before .before .if1 .left) in
-    (list-pairs (c .before .before .before .before .before .before .before .before .before .before .before .before .before .before .before .before .args .line .now) g (c .before .before .before .before .before .before .if2 .left) (c .before .before .before .before .before .if3 .left) (c .before .before .before .before .if4 .left), (g, (c .before .before .before .before .before .before .before .before .before .before .before .before .before .before .before .before .pre .0, c .before .before .before .before .before .before .before .before .before .before .before .before .before .before .before .before .pre .1 .listing)))
+    let else4 : tie.Else4 = search in
+    let else3 : tie.Else3 = search in
+    let else2 : tie.Else2 = search in
+    let else1 : tie.Else1 = search in
+    let at-good-line : tie.After-good-line = search in
+    let start : tie.Start = search in
+    let g = sym (at-good-line .good-line .ensures) ∙ not-false _
+    (else1 .if1 .left) in (
+      list-pairs (start .args .line .now) g (else2 .if2 .left) (else3 .if3 .left) (else4 .if4 .left),
+      (g, (start .pre .0, start .pre .1 .listing)),
+    )
 
 same-length-12 : tie.Need-same-length-12
 same-length-12 c = search needs
@@ -155,15 +197,26 @@ same-length-15 c = search needs
 
 returns-5 : tie.Need-returns-5
 returns-5 c =
-    let a = c .before .before .before .before .before .before .before .before .before .before .before .before .before .before .before .before .before .before .before .before .before .before .before .args in
+    let at-ask-line : tie.After-ask-line = search in
+    let else4 : tie.Else4 = search in
+    let else3 : tie.Else3 = search in
+    let else2 : tie.Else2 = search in
+    let else1 : tie.Else1 = search in
+    let at-good-line : tie.After-good-line = search in
+    let start : tie.Start = search in
+    let a = start .args in
     let t = tables (a .reg .now) (a .nodes .now) in
-    let g = sym (c .before .before .before .before .before .before .before .before .before .before .before .before .before .before .before .before .good-line .ensures) ∙ not-false _ (c .before .before .before .before .before .before .before .before .before .before .before .before .before .before .before .if1 .left) in
-    let n1 = c .before .before .before .before .before .before .before .before .before .before .before .before .before .if2 .left in
-    let n2 = c .before .before .before .before .before .before .before .before .before .before .before .before .if3 .left in
-    let n3 = c .before .before .before .before .before .before .before .before .before .before .before .if4 .left in (
+    let g = sym (at-good-line .good-line .ensures) ∙ not-false _ (else1 .if1 .left) in
+    let n1 = else2 .if2 .left in
+    let n2 = else3 .if3 .left in
+    let n3 = else4 .if4 .left in (
       ask-answers (a .line .now) (a .places .now) (a .sheet .now) t _ g n1 n2 n3
-          (c .before .before .before .before .before .before .ask-line .ensures .0),
-      (c .before .before .before .before .before .before .before .before .before .before .before .before .before .before .before .before .before .before .before .before .before .before .before .pre .0, ask-outputs (a .line .now) (a .places .now) (a .sheet .now) t g n1 n2 _ n3 (c .before .before .before .before .before .before .ask-line .ensures .1)),
+          (at-ask-line .ask-line .ensures .0),
+      (
+        start .pre .0,
+        ask-outputs (a .line .now) (a .places .now) (a .sheet .now) t g n1 n2 _ n3
+            (at-ask-line .ask-line .ensures .1),
+      ),
     )
 
 pub answer-line-spec : {M : Type 1} → statement M

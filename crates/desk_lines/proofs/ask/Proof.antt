@@ -20,13 +20,17 @@ same-length-2 : tie.Need-same-length-2
 same-length-2 c = search needs
 
 returns : tie.Need-returns
-returns c = let a = c .before .before .before .before .before .before .before .before .before .before .before .before .args in (
-  asked-finds (a .letter) (a .places .now) (tables (a .reg .now) (a .nodes .now)) (a .list .now)
-      (reply (c .before .before .before .find .result)) (c .before .before .before .before .before .before .if1 .taken)
-      (c .before .before .before .find .ensures) (c .before .before .put-answer .ensures),
-  finds-leaves (a .letter) (a .places .now) (tables (a .reg .now) (a .nodes .now)) (a .list .now)
-      (c .before .before .before .before .before .before .if1 .taken),
-)
+returns c =
+    let at-find : tie.After-find = search in
+    let then1 : tie.Then1 = search in
+    let start : tie.Start = search in
+    let a = start .args in (
+      asked-finds (a .letter) (a .places .now) (tables (a .reg .now) (a .nodes .now)) (a .list .now)
+          (reply (at-find .find .result)) (then1 .if1 .taken)
+          (at-find .find .ensures) (c .before .before .put-answer .ensures),
+      finds-leaves (a .letter) (a .places .now) (tables (a .reg .now) (a .nodes .now)) (a .list .now)
+          (then1 .if1 .taken),
+    )
 
 delete-requires : tie.Need-delete-requires
 delete-requires c κs = search needs
@@ -42,15 +46,19 @@ same-length-4 c = search needs
 
 returns-2 : tie.Need-returns-2
 returns-2 c =
-    let a = c .before .before .before .before .before .before .before .before .before .before .before .before .before .before .before .args in (
+    let at-delete : tie.After-delete = search in
+    let then2 : tie.Then2 = search in
+    let else1 : tie.Else1 = search in
+    let start : tie.Start = search in
+    let a = start .args in (
       asked-deletes (a .letter) (a .places .now) (tables (a .reg .now) (a .nodes .now)) (a .list .now)
-          (reply (c .before .before .before .before .before .delete .result))
-          (c .before .before .before .before .before .before .before .before .before .if1 .left) _
-          (c .before .before .before .before .before .before .before .before .if2 .taken)
-          (c .before .before .before .before .before .delete .ensures) (c .before .before .put-answer2 .ensures),
+          (reply (at-delete .delete .result))
+          (else1 .if1 .left) _
+          (then2 .if2 .taken)
+          (at-delete .delete .ensures) (c .before .before .put-answer2 .ensures),
       deletes-leaves (a .letter) (a .places .now) (tables (a .reg .now) (a .nodes .now)) (a .list .now)
-          (c .before .before .before .before .before .before .before .before .before .if1 .left)
-          (c .before .before .before .before .before .before .before .before .if2 .taken),
+          (else1 .if1 .left)
+          (then2 .if2 .taken),
     )
 
 any-within-requires : tie.Need-any-within-requires
@@ -67,17 +75,22 @@ same-length-6 c = search needs
 
 returns-3 : tie.Need-returns-3
 returns-3 c =
-    let a = c .before .before .before .before .before .before .before .before .before .before .before .before .before .before .args in (
+    let at-any-within : tie.After-any-within = search in
+    let then3 : tie.Then3 = search in
+    let else2 : tie.Else2 = search in
+    let else1 : tie.Else1 = search in
+    let start : tie.Start = search in
+    let a = start .args in (
       asked-within (a .letter) (a .places .now) (tables (a .reg .now) (a .nodes .now)) (a .list .now)
-          (reply (c .before .before .before .any-within .result))
-          (c .before .before .before .before .before .before .before .before .if1 .left)
-          (c .before .before .before .before .before .before .before .if2 .left)
-          (c .before .before .before .before .before .before .if3 .taken) (c .before .before .before .any-within .ensures)
+          (reply (at-any-within .any-within .result))
+          (else1 .if1 .left)
+          (else2 .if2 .left)
+          (then3 .if3 .taken) (at-any-within .any-within .ensures)
           (c .before .before .put-answer3 .ensures),
       within-leaves (a .letter) (a .places .now) (tables (a .reg .now) (a .nodes .now)) (a .list .now)
-          (c .before .before .before .before .before .before .before .before .if1 .left)
-          (c .before .before .before .before .before .before .before .if2 .left)
-          (c .before .before .before .before .before .before .if3 .taken),
+          (else1 .if1 .left)
+          (else2 .if2 .left)
+          (then3 .if3 .taken),
     )
 
 any-containing-requires : tie.Need-any-containing-requires
@@ -94,19 +107,25 @@ same-length-8 c = search needs
 
 returns-4 : tie.Need-returns-4
 returns-4 c =
-    let a = c .before .before .before .before .before .before .before .before .before .before .before .before .before .before .before .args in (
+    let at-any-containing : tie.After-any-containing = search in
+    let then4 : tie.Then4 = search in
+    let else3 : tie.Else3 = search in
+    let else2 : tie.Else2 = search in
+    let else1 : tie.Else1 = search in
+    let start : tie.Start = search in
+    let a = start .args in (
       asked-containing (a .letter) (a .places .now) (tables (a .reg .now) (a .nodes .now)) (a .list .now)
-          (reply (c .before .before .before .any-containing .result))
-          (c .before .before .before .before .before .before .before .before .before .if1 .left)
-          (c .before .before .before .before .before .before .before .before .if2 .left)
-          (c .before .before .before .before .before .before .before .if3 .left)
-          (c .before .before .before .before .before .before .if4 .taken) (c .before .before .before .any-containing .ensures)
+          (reply (at-any-containing .any-containing .result))
+          (else1 .if1 .left)
+          (else2 .if2 .left)
+          (else3 .if3 .left)
+          (then4 .if4 .taken) (at-any-containing .any-containing .ensures)
           (c .before .before .put-answer4 .ensures),
       containing-leaves (a .letter) (a .places .now) (tables (a .reg .now) (a .nodes .now)) (a .list .now)
-          (c .before .before .before .before .before .before .before .before .before .if1 .left)
-          (c .before .before .before .before .before .before .before .before .if2 .left)
-          (c .before .before .before .before .before .before .before .if3 .left)
-          (c .before .before .before .before .before .before .if4 .taken),
+          (else1 .if1 .left)
+          (else2 .if2 .left)
+          (else3 .if3 .left)
+          (then4 .if4 .taken),
     )
 
 all-within-requires : tie.Need-all-within-requires
@@ -114,10 +133,12 @@ all-within-requires c κs = search needs
 
 put-listed-requires : tie.Need-put-listed-requires
 put-listed-requires c κs =
-    let a = c .before .before .before .before .before .before .before .before .before .before .before .before .before .before .before .before .before .args in (
-      omega (arith, c .before .before .before .before .all-within .kept .1 .1 .1 .0),
+    let at-all-within : tie.After-all-within = search in
+    let start : tie.Start = search in
+    let a = start .args in (
+      omega (arith, at-all-within .all-within .kept .1 .1 .1 .0),
       within-inside (a .list .now)
-          (tables (a .reg .now) (a .nodes .now)) (a .places .now) _ _ (c .before .before .before .before .all-within .ensures),
+          (tables (a .reg .now) (a .nodes .now)) (a .places .now) _ _ (at-all-within .all-within .ensures),
     )
 
 same-length-9 : tie.Need-same-length-9
@@ -131,23 +152,30 @@ same-length-11 c = search needs
 
 returns-5 : tie.Need-returns-5
 returns-5 c =
-    let a = c .before .before .before .before .before .before .before .before .before .before .before .before .before .before .before .before .before .before .before .before .args in (
+    let at-all-within : tie.After-all-within = search in
+    let then5 : tie.Then5 = search in
+    let else4 : tie.Else4 = search in
+    let else3 : tie.Else3 = search in
+    let else2 : tie.Else2 = search in
+    let else1 : tie.Else1 = search in
+    let start : tie.Start = search in
+    let a = start .args in (
       asked-all-within (a .letter) (a .places .now) (tables (a .reg .now) (a .nodes .now)) (a .list .now)
-          (reply (c .before .before .before .before .before .before .before .all-within .result))
-          (c .before .before .before .before .before .before .before .before .before .before .before .before .before .before .if1 .left)
-          (c .before .before .before .before .before .before .before .before .before .before .before .before .before .if2 .left)
-          (c .before .before .before .before .before .before .before .before .before .before .before .before .if3 .left)
-          (c .before .before .before .before .before .before .before .before .before .before .before .if4 .left) _
+          (reply (at-all-within .all-within .result))
+          (else1 .if1 .left)
+          (else2 .if2 .left)
+          (else3 .if3 .left)
+          (else4 .if4 .left) _
           (c .before .before .put-listed .ensures)
-          (c .before .before .before .before .before .before .before .before .before .before .if5 .taken)
-          (c .before .before .before .before .before .before .before .all-within .ensures),
+          (then5 .if5 .taken)
+          (at-all-within .all-within .ensures),
       all-within-lists (a .letter) (a .places .now) (tables (a .reg .now) (a .nodes .now)) (a .list .now)
-          (c .before .before .before .before .before .before .before .before .before .before .before .before .before .before .if1 .left)
-          (c .before .before .before .before .before .before .before .before .before .before .before .before .before .if2 .left)
-          (c .before .before .before .before .before .before .before .before .before .before .before .before .if3 .left)
-          (c .before .before .before .before .before .before .before .before .before .before .before .if4 .left) _
-          (c .before .before .before .before .before .before .before .before .before .before .if5 .taken)
-          (c .before .before .before .before .before .before .before .all-within .ensures .lent),
+          (else1 .if1 .left)
+          (else2 .if2 .left)
+          (else3 .if3 .left)
+          (else4 .if4 .left) _
+          (then5 .if5 .taken)
+          (at-all-within .all-within .ensures .lent),
     )
 
 all-containing-requires : tie.Need-all-containing-requires
@@ -155,10 +183,12 @@ all-containing-requires c κs = search needs
 
 put-listed-requires-2 : tie.Need-put-listed-requires-2
 put-listed-requires-2 c κs =
-    let a = c .before .before .before .before .before .before .before .before .before .before .before .before .before .before .before .before .before .args in (
-      omega (arith, c .before .before .before .before .all-containing .kept .1 .1 .1 .0),
+    let at-all-containing : tie.After-all-containing = search in
+    let start : tie.Start = search in
+    let a = start .args in (
+      omega (arith, at-all-containing .all-containing .kept .1 .1 .1 .0),
       containing-inside (a .list .now)
-          (tables (a .reg .now) (a .nodes .now)) (a .places .now) _ _ (c .before .before .before .before .all-containing .ensures),
+          (tables (a .reg .now) (a .nodes .now)) (a .places .now) _ _ (at-all-containing .all-containing .ensures),
     )
 
 same-length-12 : tie.Need-same-length-12
@@ -172,23 +202,30 @@ same-length-14 c = search needs
 
 returns-6 : tie.Need-returns-6
 returns-6 c =
-    let a = c .before .before .before .before .before .before .before .before .before .before .before .before .before .before .before .before .before .before .before .before .args in (
+    let at-all-containing : tie.After-all-containing = search in
+    let else5 : tie.Else5 = search in
+    let else4 : tie.Else4 = search in
+    let else3 : tie.Else3 = search in
+    let else2 : tie.Else2 = search in
+    let else1 : tie.Else1 = search in
+    let start : tie.Start = search in
+    let a = start .args in (
       asked-all-containing (a .letter) (a .places .now) (tables (a .reg .now) (a .nodes .now)) (a .list .now)
-          (reply (c .before .before .before .before .before .before .before .all-containing .result))
-          (c .before .before .before .before .before .before .before .before .before .before .before .before .before .before .if1 .left)
-          (c .before .before .before .before .before .before .before .before .before .before .before .before .before .if2 .left)
-          (c .before .before .before .before .before .before .before .before .before .before .before .before .if3 .left)
-          (c .before .before .before .before .before .before .before .before .before .before .before .if4 .left) _
+          (reply (at-all-containing .all-containing .result))
+          (else1 .if1 .left)
+          (else2 .if2 .left)
+          (else3 .if3 .left)
+          (else4 .if4 .left) _
           (c .before .before .put-listed2 .ensures)
-          (c .before .before .before .before .before .before .before .before .before .before .if5 .left)
-          (c .before .before .before .before .before .before .before .all-containing .ensures),
+          (else5 .if5 .left)
+          (at-all-containing .all-containing .ensures),
       all-containing-lists (a .letter) (a .places .now) (tables (a .reg .now) (a .nodes .now)) (a .list .now)
-          (c .before .before .before .before .before .before .before .before .before .before .before .before .before .before .if1 .left)
-          (c .before .before .before .before .before .before .before .before .before .before .before .before .before .if2 .left)
-          (c .before .before .before .before .before .before .before .before .before .before .before .before .if3 .left)
-          (c .before .before .before .before .before .before .before .before .before .before .before .if4 .left) _
-          (c .before .before .before .before .before .before .before .before .before .before .if5 .left)
-          (c .before .before .before .before .before .before .before .all-containing .ensures .lent),
+          (else1 .if1 .left)
+          (else2 .if2 .left)
+          (else3 .if3 .left)
+          (else4 .if4 .left) _
+          (else5 .if5 .left)
+          (at-all-containing .all-containing .ensures .lent),
     )
 
 pub ask-spec : {M : Type 1} → statement M

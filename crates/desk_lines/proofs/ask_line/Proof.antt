@@ -32,29 +32,35 @@ same-length c = search needs
 
 returns : tie.Need-returns
 returns c =
-    let a = c .before .before .before .before .before .before .before .before .before .before .before .before .before .before .before .args in
+    let at-stop-number : tie.After-stop-number = search in
+    let at-enum-told : tie.After-enum-told = search in
+    let at-read-list : tie.After-read-list = search in
+    let start : tie.Start = search in
+    let a = start .args in
     let l = a .line .now in
     let t = tables (a .reg .now) (a .nodes .now) in
-    let s = c .before .before .before .before .before .before .before .before .read-list .ensures .says in
+    let s = at-read-list .read-list .ensures .says in
     let b = behind-letter l
-    (c .before .before .before .before .before .before .before .before .before .before .before .before .before .before .before .pre .1 .0) in
-    let e = c .before .before .before .before .before .enum-told .given .1 in (
-      ask-stopped l t (c .before .before .before .before .before .before .before .before .read-list .result) _ (fieldsFrom l 2) s
-          (a .letter) (a .places .now) b _ (c .before .before .before .stop-number .result) e
-          (c .before .before .before .stop-number .ensures) (c .before .before .put-reply .ensures),
+    (start .pre .1 .0) in
+    let e = at-enum-told .enum-told .given .1 in (
+      ask-stopped l t (at-read-list .read-list .result) _ (fieldsFrom l 2) s
+          (a .letter) (a .places .now) b _ (at-stop-number .stop-number .result) e
+          (at-stop-number .stop-number .ensures) (c .before .before .put-reply .ensures),
       stop-leaves (a .letter) l (a .places .now) t
-          (c .before .before .before .before .before .before .before .before .read-list .result) _ (fieldsFrom l 2) s b _ e,
+          (at-read-list .read-list .result) _ (fieldsFrom l 2) s b _ e,
     )
 
 array-share-prefix-list : tie.Need-array-share-prefix-list
 array-share-prefix-list c =
-    words-inside _ _ _ (c .before .read .given .1) (c .before .before .before .before .read-list .ensures .inside)
+    let at-read-list : tie.After-read-list = search in
+    words-inside _ _ _ (c .before .read .given .1) (at-read-list .read-list .ensures .inside)
 
 slice-aggregate-ask : tie.Need-slice-aggregate-ask
 slice-aggregate-ask c =
+    let at-read-list : tie.After-read-list = search in
     sym (length-take-le _ _
     (words-inside _ _ _ (c .before .before .read .given .1)
-    (c .before .before .before .before .before .read-list .ensures .inside)))
+    (at-read-list .read-list .ensures .inside)))
 
 ask-requires : tie.Need-ask-requires
 ask-requires c κs = search needs
@@ -70,16 +76,21 @@ same-length-4 c = search needs
 
 returns-2 : tie.Need-returns-2
 returns-2 c =
-    let a = c .before .before .before .before .before .before .before .before .before .before .before .before .before .before .before .before .before .before .before .before .before .before .args in
+    let at-ask : tie.After-ask = search in
+    let at-read : tie.After-read = search in
+    let at-read-list : tie.After-read-list = search in
+    let start : tie.Start = search in
+    let a = start .args in
     let l = a .line .now in
     let t = tables (a .reg .now) (a .nodes .now) in
-    let s = c .before .before .before .before .before .before .before .before .before .before .before .before .before .before .before .read-list .ensures .says in
+    let s = at-read-list .read-list .ensures .says in
     let b = behind-letter l
-    (c .before .before .before .before .before .before .before .before .before .before .before .before .before .before .before .before .before .before .before .before .before .before .pre .1 .0) in
-    let e = c .before .before .before .before .before .before .before .before .before .before .before .before .read .given .1 in (
-      ask-typed l t (c .before .before .before .before .before .before .before .before .before .before .before .before .before .before .before .read-list .result) _ (fieldsFrom l 2) s (a .letter) (a .places .now) b _ _ e (c .before .before .before .before .before .before .ask .ensures .0),
+    (start .pre .1 .0) in
+    let e = at-read .read .given .1 in (
+      ask-typed l t (at-read-list .read-list .result) _ (fieldsFrom l 2) s (a .letter) (a .places .now) b _ _ e
+          (at-ask .ask .ensures .0),
       ask-lists (a .letter) l (a .places .now) t
-          (c .before .before .before .before .before .before .before .before .before .before .before .before .before .before .before .read-list .result) _ (fieldsFrom l 2) s b _ _ e (c .before .before .before .before .before .before .ask .ensures .1),
+          (at-read-list .read-list .result) _ (fieldsFrom l 2) s b _ _ e (at-ask .ask .ensures .1),
     )
 
 pub ask-line-spec : {M : Type 1} → statement M

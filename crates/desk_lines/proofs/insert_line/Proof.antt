@@ -14,7 +14,8 @@ use Rattle.desk_lines.proofs.insert_line.Tie as tie
 
 end-of-requires : tie.Need-end-of-requires
 end-of-requires c κs =
-    tag-there _ (c .before .before .before .before .pre .0 .good) (c .before .before .before .before .pre .0 .letter)
+    let start : tie.Start = search in
+    tag-there _ (start .pre .0 .good) (start .pre .0 .letter)
 
 sub-read-amount : tie.Need-sub-read-amount
 sub-read-amount c = search needs
@@ -35,12 +36,14 @@ slice-aggregate-read-list : tie.Need-slice-aggregate-read-list
 slice-aggregate-read-list c = search needs
 
 read-list-requires : tie.Need-read-list-requires
-read-list-requires c κs = (
-  kit-pairs _ (c .before .before .before .before .before .before .before .before .pre .0 .good)
-      (c .before .before .before .before .before .before .before .before .pre .0 .letter) _
-      (c .before .before .before .end-of .ensures),
-  (c .before .before .before .before .before .before .before .before .pre .1 .0, search needs),
-)
+read-list-requires c κs =
+    let at-end-of : tie.After-end-of = search in
+    let start : tie.Start = search in (
+      kit-pairs _ (start .pre .0 .good)
+          (start .pre .0 .letter) _
+          (at-end-of .end-of .ensures),
+      (start .pre .1 .0, search needs),
+    )
 
 enum-known-read : tie.Need-enum-known-read
 enum-known-read c = search needs
@@ -59,23 +62,33 @@ same-length c = search needs
 
 returns : tie.Need-returns
 returns c =
-    let a = c .before .before .before .before .before .before .before .before .before .before .before .before .before .before .before .before .before .args in
+    let at-stop-number : tie.After-stop-number = search in
+    let at-enum-told : tie.After-enum-told = search in
+    let at-read-list : tie.After-read-list = search in
+    let at-end-of : tie.After-end-of = search in
+    let start : tie.Start = search in
+    let a = start .args in
     let l = a .line .now in
     let T = tables (a .reg .now) (a .nodes .now) in
-    insert-stopped l T (c .before .before .before .before .before .before .before .before .read-list .result) _
-    (fieldsFrom l (c .before .before .before .before .before .before .before .before .before .before .before .before .end-of .result + 1)) (c .before .before .before .before .before .before .before .before .read-list .ensures .says) (fieldAt l 2 (c .before .before .before .before .before .before .before .before .before .before .before .before .end-of .result)) (tag-first l (c .before .before .before .before .before .before .before .before .before .before .before .before .before .before .before .before .before .pre .0 .good) (c .before .before .before .before .before .before .before .before .before .before .before .before .before .before .before .before .before .pre .0 .letter) _ (c .before .before .before .before .before .before .before .before .before .before .before .before .end-of .ensures))
-    _ (c .before .before .before .stop-number .result) (c .before .before .before .before .before .enum-told .given .1)
-    (c .before .before .before .stop-number .ensures) (c .before .before .put-reply .ensures)
+    insert-stopped l T (at-read-list .read-list .result) _
+    (fieldsFrom l (at-end-of .end-of .result + 1)) (at-read-list .read-list .ensures .says)
+    (fieldAt l 2 (at-end-of .end-of .result))
+    (tag-first l (start .pre .0 .good) (start .pre .0 .letter) _ (at-end-of .end-of .ensures))
+    _ (at-stop-number .stop-number .result) (at-enum-told .enum-told .given .1)
+    (at-stop-number .stop-number .ensures) (c .before .before .put-reply .ensures)
 
 array-share-prefix-list : tie.Need-array-share-prefix-list
 array-share-prefix-list c =
-    words-inside _ _ _ (c .before .before .read .given .1) (c .before .before .before .before .before .read-list .ensures .inside)
+    let at-read-list : tie.After-read-list = search in
+    words-inside _ _ _ (c .before .before .read .given .1) (at-read-list .read-list .ensures .inside)
 
 slice-aggregate-insert : tie.Need-slice-aggregate-insert
 slice-aggregate-insert c =
+    let at-read : tie.After-read = search in
+    let at-read-list : tie.After-read-list = search in
     sym (length-take-le _ _
-    (words-inside _ _ _ (c .before .before .before .read .given .1)
-    (c .before .before .before .before .before .before .read-list .ensures .inside)))
+    (words-inside _ _ _ (at-read .read .given .1)
+    (at-read-list .read-list .ensures .inside)))
 
 insert-requires : tie.Need-insert-requires
 insert-requires c κs = search needs
@@ -91,14 +104,23 @@ same-length-3 c = search needs
 
 returns-2 : tie.Need-returns-2
 returns-2 c =
-    let a = c .before .before .before .before .before .before .before .before .before .before .before .before .before .before .before .before .before .before .before .before .before .before .args in
+    let at-insert : tie.After-insert = search in
+    let at-read : tie.After-read = search in
+    let at-read-list : tie.After-read-list = search in
+    let at-read-amount : tie.After-read-amount = search in
+    let at-end-of : tie.After-end-of = search in
+    let start : tie.Start = search in
+    let a = start .args in
     let l = a .line .now in
     let T = tables (a .reg .now) (a .nodes .now) in
-    let g = c .before .before .before .before .before .before .before .before .before .before .before .before .before .before .before .before .before .before .before .before .before .before .pre .0 .good in
-    let x = c .before .before .before .before .before .before .before .before .before .before .before .before .before .before .before .before .before .before .before .before .before .before .pre .0 .letter in
-    let e = c .before .before .before .before .before .before .before .before .before .before .before .before .before .before .before .before .before .end-of .ensures in
-    insert-typed l T (c .before .before .before .before .before .before .before .before .before .before .before .before .before .read-list .result) _ (fieldsFrom l (c .before .before .before .before .before .before .before .before .before .before .before .before .before .before .before .before .before .end-of .result + 1)) (c .before .before .before .before .before .before .before .before .before .before .before .before .before .read-list .ensures .says) (fieldAt l 2 (c .before .before .before .before .before .before .before .before .before .before .before .before .before .before .before .before .before .end-of .result)) (tag-first l g x _ e)
-    _ (c .before .before .before .before .before .before .before .before .before .before .before .before .before .before .before .read-amount .result .value) (reply (c .before .before .before .before .before .before .insert .result)) _ (c .before .before .before .before .before .before .before .before .before .before .read .given .1) (amount-value _ _ (c .before .before .before .before .before .before .before .before .before .before .before .before .before .before .before .read-amount .ensures) (tag-good l g x _ e)) (c .before .before .before .before .before .before .insert .ensures) (c .before .before .put-answer .ensures)
+    let g = start .pre .0 .good in
+    let x = start .pre .0 .letter in
+    let e = at-end-of .end-of .ensures in
+    insert-typed l T (at-read-list .read-list .result) _ (fieldsFrom l (at-end-of .end-of .result + 1))
+    (at-read-list .read-list .ensures .says) (fieldAt l 2 (at-end-of .end-of .result)) (tag-first l g x _ e)
+    _ (at-read-amount .read-amount .result .value) (reply (at-insert .insert .result)) _ (at-read .read .given .1)
+    (amount-value _ _ (at-read-amount .read-amount .ensures) (tag-good l g x _ e)) (at-insert .insert .ensures)
+    (c .before .before .put-answer .ensures)
 
 pub insert-line-spec : {M : Type 1} → statement M
 insert-line-spec =

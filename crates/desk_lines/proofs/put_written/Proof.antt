@@ -22,36 +22,51 @@ same-length : tie.Need-same-length
 same-length c = search needs
 
 returns : tie.Need-returns
-returns c = let a = c .before .before .before .before .before .before .before .before .before .args in
-    let m = c .before .before .before .before .before .before .answer-reply .ensures in
+returns c =
+    let then1 : tie.Then1 = search in
+    let at-answer-reply : tie.After-answer-reply = search in
+    let start : tie.Start = search in
+    let a = start .args in
+    let m = at-answer-reply .answer-reply .ensures in
     printed-refused (a .a) (a .sheet .now) writes sheetText
-    (c .before .before .before .before .before .before .answer-reply .result .number) (m .number)
-    (c .before .before .before .before .if1 .taken) (c .before .before .put-answer .ensures)
+    (at-answer-reply .answer-reply .result .number) (m .number)
+    (then1 .if1 .taken) (c .before .before .put-answer .ensures)
 
 slice-aggregate-put-sheet : tie.Need-slice-aggregate-put-sheet
-slice-aggregate-put-sheet c = let a = c .before .before .before .before .before .before .before .args in
-    let m = c .before .before .before .before .answer-reply .ensures in
+slice-aggregate-put-sheet c =
+    let at-answer-reply : tie.After-answer-reply = search in
+    let start : tie.Start = search in
+    let a = start .args in
+    let m = at-answer-reply .answer-reply .ensures in
     sym (done-length (a .a) (a .sheet .now) _ _ (m .number) (c .before .before .if1 .left) (m .value)
-    (c .before .before .before .before .before .before .before .pre .1))
+    (start .pre .1))
 
 put-sheet-requires : tie.Need-put-sheet-requires
-put-sheet-requires c κs = let a = c .before .before .before .before .before .before .before .args in
-    let m = c .before .before .before .before .answer-reply .ensures in
-    let n = done-length (a .a) (a .sheet .now) _ _ (m .number) (c .before .before .if1 .left) (m .value)
-    (c .before .before .before .before .before .before .before .pre .1) in
-    let i = done-inside (a .a) (a .sheet .now) _ _ (m .number) (c .before .before .if1 .left) (m .value)
-    (c .before .before .before .before .before .before .before .pre .1) in
-    omega (arith, c .before .before .before .before .before .before .before .pre .0)
+put-sheet-requires c κs =
+    let else1 : tie.Else1 = search in
+    let at-answer-reply : tie.After-answer-reply = search in
+    let start : tie.Start = search in
+    let a = start .args in
+    let m = at-answer-reply .answer-reply .ensures in
+    let n = done-length (a .a) (a .sheet .now) _ _ (m .number) (else1 .if1 .left) (m .value)
+    (start .pre .1) in
+    let i = done-inside (a .a) (a .sheet .now) _ _ (m .number) (else1 .if1 .left) (m .value)
+    (start .pre .1) in
+    omega (arith, start .pre .0)
 
 same-length-2 : tie.Need-same-length-2
 same-length-2 c = search needs
 
 returns-2 : tie.Need-returns-2
 unfolding sheetText
-returns-2 c = let a = c .before .before .before .before .before .before .before .before .before .before .args in
-    let m = c .before .before .before .before .before .before .before .answer-reply .ensures in
-    printed-done (a .a) (a .sheet .now) _ _ (m .number) (c .before .before .before .before .before .if1 .left) (m .value)
-    (c .before .before .before .before .before .before .before .before .before .before .pre .1) writes sheetText
+returns-2 c =
+    let else1 : tie.Else1 = search in
+    let at-answer-reply : tie.After-answer-reply = search in
+    let start : tie.Start = search in
+    let a = start .args in
+    let m = at-answer-reply .answer-reply .ensures in
+    printed-done (a .a) (a .sheet .now) _ _ (m .number) (else1 .if1 .left) (m .value)
+    (start .pre .1) writes sheetText
     (c .before .before .put-sheet .ensures)
 
 pub put-written-spec : {M : Type 1} → statement M

@@ -18,13 +18,15 @@ use Rattle.replies.proofs.registered_reply.Reads as registered-reply-reads
 
 sub-register-in : tie.Need-sub-register-in
 sub-register-in c =
-    number-there _ (c .before .before .before .before .before .pre .0 .good)
-    (c .before .before .before .before .before .pre .0 .letter)
+    let start : tie.Start = search in
+    number-there _ (start .pre .0 .good)
+    (start .pre .0 .letter)
 
 part-register-in-start : tie.Need-part-register-in-start
 part-register-in-start c =
-    number-there _ (c .before .before .before .before .before .pre .0 .good)
-    (c .before .before .before .before .before .pre .0 .letter)
+    let start : tie.Start = search in
+    number-there _ (start .pre .0 .good)
+    (start .pre .0 .letter)
 
 part-register-in-end : tie.Need-part-register-in-end
 part-register-in-end c = search needs
@@ -49,16 +51,18 @@ same-length-2 c = search needs
 
 returns : tie.Need-returns
 returns c =
-    let a = c .before .before .before .before .before .before .before .before .before .before .before .before .before .before .before .args in
+    let at-register-in : tie.After-register-in = search in
+    let start : tie.Start = search in
+    let a = start .args in
     let n = number-typed (a .line .now)
-    (c .before .before .before .before .before .before .before .before .before .before .before .before .before .before .before .pre .0 .good) (c .before .before .before .before .before .before .before .before .before .before .before .before .before .before .before .pre .0 .letter) in
-    let p = c .before .before .before .before .before .before .before .before .register-in .ensures in (
+    (start .pre .0 .good) (start .pre .0 .letter) in
+    let p = at-register-in .register-in .ensures in (
       register-put (a .line .now) (a .reg .now) (a .nodes .now) _
-          (registeredReply (c .before .before .before .before .before .before .before .before .register-in .result)) _ (sym n) p
+          (registeredReply (at-register-in .register-in .result)) _ (sym n) p
           (put-same (c .before .before .put-reply .ensures) (cc)),
       subst (λ (m : List ℕ). Ready m) (sym (p .lent))
           (ready-kept _ (a .reg .now)
-          (c .before .before .before .before .before .before .before .before .before .before .before .before .before .before .before .pre .1 .0)),
+          (start .pre .1 .0)),
     )
 
 pub register-line-spec : {M : Type 1} → statement M

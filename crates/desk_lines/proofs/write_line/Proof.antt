@@ -12,11 +12,14 @@ write-sheet-requires : tie.Need-write-sheet-requires
 write-sheet-requires c κs = search needs
 
 put-written-requires : tie.Need-put-written-requires
-put-written-requires c κs = let a = c .before .before .before .before .before .before .before .before .before .before .args in (
-  omega (arith, c .before .before .before .before .write-sheet .kept .1 .1 .0),
-  written-inside
-      (tables (a .reg .now) (a .nodes .now)) (a .sheet .now) _ _ (c .before .before .before .before .write-sheet .ensures),
-)
+put-written-requires c κs =
+    let at-write-sheet : tie.After-write-sheet = search in
+    let start : tie.Start = search in
+    let a = start .args in (
+      omega (arith, at-write-sheet .write-sheet .kept .1 .1 .0),
+      written-inside
+          (tables (a .reg .now) (a .nodes .now)) (a .sheet .now) _ _ (at-write-sheet .write-sheet .ensures),
+    )
 
 same-length : tie.Need-same-length
 same-length c = search needs
@@ -27,10 +30,12 @@ same-length-2 c = search needs
 returns : tie.Need-returns
 unfolding writeLine
 returns c =
-    let a = c .before .before .before .before .before .before .before .before .before .before .before .before .before .args in (
+    let at-write-sheet : tie.After-write-sheet = search in
+    let start : tie.Start = search in
+    let a = start .args in (
       shown-put writes sheetText (writing (tables (a .reg .now) (a .nodes .now)) (a .sheet .now)) (a .sheet .now) _ _
-          (c .before .before .before .before .before .before .before .write-sheet .ensures) (c .before .before .put-written .ensures),
-      c .before .before .before .before .before .before .before .write-sheet .ensures .lent,
+          (at-write-sheet .write-sheet .ensures) (c .before .before .put-written .ensures),
+      at-write-sheet .write-sheet .ensures .lent,
     )
 
 pub write-line-spec : {M : Type 1} → statement M
