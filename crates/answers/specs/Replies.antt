@@ -2,7 +2,7 @@
 use mathlib.Core.Path.{_≡_}
 use Rattle.ground.specs.Calls as paper
 use Rattle.ground.specs.Calls.{numberOf, valueOf}
-use Rattle.replies.specs.declared.Reply.{Reply}
+use Rattle.answers.specs.declared.Reply.{Reply}
 
 pub record Means (r : Reply) (p : paper.Reply) : Type 0 where
   pub number : r .number ≡ numberOf p

@@ -1,2 +1,0 @@
--- Replies as programs hold them.
-pub mod Replies
