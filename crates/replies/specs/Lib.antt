@@ -1,2 +1,2 @@
 -- Replies as programs hold them.
-pub mod Replies
+pub mod Inner

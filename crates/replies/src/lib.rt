@@ -4,7 +4,7 @@ ghost use Rattle.ground.specs.Calls as paper;
 ghost use Rattle.register.specs.Calls.{registeredReply, lookedReply, shownReply};
 ghost use Rattle.kits.specs.Kits.{lineValue};
 ghost use Rattle.lent.specs.Answers.{reply};
-ghost use Rattle.replies.specs.Replies.{Means};
+ghost use Rattle.replies.specs.Inner.{Means};
 use ground::wide16;
 use lent::Answer;
 use register::Looked;

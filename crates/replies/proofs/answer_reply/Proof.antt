@@ -1,4 +1,4 @@
-use Rattle.replies.specs.Replies.{Means}
+use Rattle.replies.specs.Inner.{Means}
 use Rattle.lent.specs.Answers.{reply}
 use Rattle.ground.specs.Calls as paper
 use mathlib.Core.Path.{sym, ap, subst, _∙_}
