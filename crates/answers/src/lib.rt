@@ -4,7 +4,7 @@ ghost use mathlib.Core.Path.{_≡_};
 ghost use Rattle.ground.specs.Calls as paper;
 ghost use Rattle.ground.specs.Calls.{isRefused};
 ghost use Rattle.answers.specs.Answers.{reply};
-ghost use Rattle.answers.specs.Replies.{Means};
+ghost use Rattle.answers.specs.Inner.{Means};
 
 // A call is done, with its value, or refused; a refusal that has a value carries it.
 pub enum Answer {

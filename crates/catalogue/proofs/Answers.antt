@@ -12,22 +12,23 @@ use Rattle.ground.specs.Lists.{isZero}
 use Rattle.ground.specs.Laid.{zeroed}
 use Rattle.ground.specs.Calls.{Case, given, plan, Reply, done, refused, isRefused, decide, answer, Promise, setDown, Both, setBoth}
 use Rattle.ground.proofs.Calls.{promise-first, promise-front, promise-behind, promise-part, promise-refused, promise-done, first-refuses, first-passes, whole-refuses, whole-passes, set-down-behind, set-both-behind}
-use Rattle.kits.specs.Kits.{mostUnits, mostPlace, units, goodList, GoodRow, listFaults}
-use Rattle.kits.specs.Rows.{rowOf, unitsIn}
+use Rattle.kits.specs.Kits.{mostUnits, mostPlace, units, goodList, listFaults}
+use Rattle.kits.specs.Inner.{GoodRow, rowOf, unitsIn}
 use Rattle.kits.specs.declared.Row.{Row}
 use Rattle.kits.proofs.Rows.{row-back}
 use Rattle.kits.proofs.Units.{good-row}
-use Rattle.nodes.specs.Sound.{Sound}
+use Rattle.nodes.specs.Inner.{Sound}
 use Rattle.nodes.specs.Held.{Kit, held, tagIn}
 use Rattle.nodes.proofs.Held.{held-good}
 use Rattle.nodes.proofs.Listing.{tag-none}
 use Rattle.growing.specs.Enter.{enter, lacks}
-use Rattle.index.specs.Index.{entryRefusals, insertingRow, missingRefusals, findingRow, deletingRow}
+use Rattle.index.specs.Index.{entryRefusals, missingRefusals}
+use Rattle.index.specs.Inner.{insertingRow, findingRow, deletingRow}
 use Rattle.questions.specs.Questions.{anyOf, allOf}
 use Rattle.shortfalls.specs.Shortfalls.{mostShort, almostTags, almostShorts, listAlmost}
 use Rattle.sheet.specs.Sheet.{encode}
 use Rattle.sheet.specs.Calls as sheet
-use Rattle.filling.specs.Read as filling
+use Rattle.filling.specs.Inner as filling
 use Rattle.lent.specs.Lent.{Tables, tables, partCount, lengths, lentBoth, lentList}
 use Rattle.catalogue.specs.Calls.{contents, emptying, inserting, finding, deleting, anyKit, allKits, almostKits, writing, reading}
 

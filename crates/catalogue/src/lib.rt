@@ -2,10 +2,11 @@
 // paper's order, and refuses. The work behind them is done by the crates below, on tables known to be sound.
 ghost use mathlib.Core.Path.{_≡_};
 ghost use Rattle.ground.specs.Calls.{answer, SetsBoth};
-ghost use Rattle.questions.specs.Questions.{isWithin, isContaining, listedReply};
-ghost use Rattle.index.specs.Index.{foundReply, insertedReply, deletedReply};
-ghost use Rattle.writing.specs.Written.{writtenReply};
-ghost use Rattle.filling.specs.Read.{readReply};
+ghost use Rattle.questions.specs.Questions.{isWithin, isContaining};
+ghost use Rattle.questions.specs.Inner.{listedReply};
+ghost use Rattle.index.specs.Inner.{foundReply, insertedReply, deletedReply};
+ghost use Rattle.writing.specs.Inner.{writtenReply};
+ghost use Rattle.filling.specs.Inner.{readReply};
 ghost use Rattle.lent.specs.Lent.{tables};
 ghost use Rattle.lent.specs.Answers.{reply};
 ghost use Rattle.catalogue.specs.Calls.{emptying, inserting, finding, deleting, anyKit, allKits, almostKits, writing, reading, Leaves, Sets};

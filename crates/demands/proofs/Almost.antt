@@ -10,7 +10,8 @@ use Rattle.ground.specs.Calls.{Case, given, Plan, done, decide, answer, memory,
 use Rattle.ground.specs.Laid.{laid}
 use Rattle.ground.proofs.Calls.{decide-behind, set-both-done, set-both-behind}
 use Rattle.ground.proofs.Laid.{laid-front}
-use Rattle.kits.specs.Kits.{mostPlace, GoodRow, units, listFaults}
+use Rattle.kits.specs.Kits.{mostPlace, units, listFaults}
+use Rattle.kits.specs.Inner.{GoodRow}
 use Rattle.nodes.specs.Held.{Kit, inOrder, tagsOf}
 use Rattle.nodes.proofs.Listing.{tags-long}
 use Rattle.nodes.proofs.Held.{held-good}

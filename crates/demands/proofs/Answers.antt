@@ -19,7 +19,7 @@ use Rattle.nodes.proofs.Decided.{sound-test}
 use Rattle.nodes.proofs.Held.{held-tagged}
 use Rattle.questions.specs.Questions.{isWithin, isContaining, fitting, anyOf, allOf}
 use Rattle.sheet.specs.Sheet.{Contents}
-use Rattle.lent.specs.Lent.{Tables, tables, partCount, lentBoth, lentList}
+use Rattle.lent.specs.Lent.{Tables, partCount, lentBoth, lentList}
 use Rattle.lent.proofs.Lent.{both-good}
 use Rattle.catalogue.specs.Calls.{contents, anyKit, allKits}
 use Rattle.catalogue.specs.Demands.{Question, entered, HasWhatWasEntered, listedIn, answering, AnsweringFits, AnsweringContains, AnsweringInOrder, AnyAnswers, NoneAnswers, AllAnswers, listingOf}

@@ -11,7 +11,7 @@ use borrow.Author.Tests.{ltb-true, eqb-false, ltb-false, not-false, eq-eqb, le-l
 use Rattle.ground.specs.Lists.{every, distinct, from}
 use Rattle.ground.specs.Limits.{mostParts}
 use Rattle.ground.specs.Laid.{zeroed}
-use Rattle.ground.specs.Calls.{Case, given, Reply, done, refused, isRefused, decide, answer, leaves, memory}
+use Rattle.ground.specs.Calls.{Case, Reply, done, refused, isRefused, decide, answer, leaves, memory}
 use Rattle.ground.proofs.Laws.{zeros-all, every-at}
 use Rattle.ground.proofs.Calls.{done-passes, leaves-done}
 use Rattle.register.specs.Register.{slotBytes, partsOf, registerLength}
@@ -19,10 +19,11 @@ use Rattle.register.specs.Calls.{registering, lookingUp, showing}
 use Rattle.register.specs.Inner.{Ready}
 use Rattle.register.proofs.Sound as registers
 use Rattle.register.proofs.Laws.{parts-after-registering, sound-after-registering, length-after-registering}
-use Rattle.kits.specs.Kits.{mostUnits, units, listFaults, goodList, GoodRow}
+use Rattle.kits.specs.Kits.{mostUnits, units, listFaults, goodList}
+use Rattle.kits.specs.Inner.{GoodRow}
 use Rattle.kits.proofs.Units.{good-row}
 use Rattle.nodes.specs.Nodes.{wordsPerNode, mostNodes, nodesLength}
-use Rattle.nodes.specs.Sound.{Sound}
+use Rattle.nodes.specs.Inner.{Sound}
 use Rattle.nodes.specs.Held.{Kit, putKit, inOrder, dropKit, tagIn, held, allBeginnings}
 use Rattle.nodes.proofs.Sorted.{Every, Rising, none, also, ahead, mem-every, allb-mem}
 use Rattle.nodes.proofs.Listing.{Earlier, OtherRow, mem-order, tag-in}
@@ -33,13 +34,14 @@ use Rattle.nodes.proofs.Beginnings.{widen}
 use Rattle.nodes.proofs.Empty.{zeros-sound, zeros-hold-nothing}
 use Rattle.growing.specs.Enter.{enter, lacks}
 use Rattle.pruning.specs.Strike.{strike}
-use Rattle.index.specs.Index.{insertingRow, deletingRow}
+use Rattle.index.specs.Inner.{insertingRow, deletingRow}
 use Rattle.index.proofs.Kept.{Accepted, accepted, deleting-tag, insert-growth, insert-sound, insert-length, held-after-insert, delete-sound, delete-length, held-after-delete}
 use Rattle.sheet.specs.Bytes.{Bytes, twoLimit}
-use Rattle.sheet.specs.Sheet.{Contents, encode, goodKit, fitting}
+use Rattle.sheet.specs.Sheet.{Contents, encode}
+use Rattle.sheet.specs.Inner.{goodKit, fitting}
 use Rattle.sheet.specs.Reading.{decode, said}
 use Rattle.filling.specs.Filling.{filling}
-use Rattle.filling.specs.Read as read
+use Rattle.filling.specs.Inner as read
 use Rattle.filling.proofs.Reading as filled
 use Rattle.filling.proofs.Listed.{Fits, fitting-fits, rising-earlier}
 use Rattle.lent.specs.Lent.{Tables, tables, partCount, lengths, lentBoth, lentList}

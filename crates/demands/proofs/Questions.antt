@@ -16,7 +16,7 @@ use Rattle.register.specs.Inner.{Ready}
 use Rattle.register.proofs.Laws.{look-up-exactly}
 use Rattle.kits.specs.Kits.{Within, units}
 use Rattle.kits.proofs.Inclusion.{includes-within, within-includes}
-use Rattle.nodes.specs.Sound.{Sound}
+use Rattle.nodes.specs.Inner.{Sound}
 use Rattle.nodes.specs.Held.{Kit, tagsOf, firstTag, listed}
 use Rattle.nodes.proofs.Lists.{never}
 use Rattle.nodes.proofs.Sorted.{Rising, none, ahead, every-mem}

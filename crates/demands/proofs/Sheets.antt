@@ -11,18 +11,19 @@ use Rattle.ground.specs.Laid.{laid}
 use Rattle.ground.specs.Calls.{done, answer, memory, Promise, setDown}
 use Rattle.ground.proofs.Laid.{laid-front}
 use Rattle.ground.proofs.Calls.{set-down-done, set-down-full, leaves-done}
+use Rattle.ground.proofs.Laws.{le-or}
 use Rattle.nodes.specs.Held.{inOrder, tagIn}
-use Rattle.nodes.proofs.Lists.{le-or}
 use Rattle.nodes.proofs.Sorted.{Every, every-mem, mem-every}
 use Rattle.nodes.proofs.Listing.{order-mem, order-rises}
 use Rattle.nodes.proofs.Held.{held-tagged}
 use Rattle.sheet.specs.Bytes.{Bytes}
-use Rattle.sheet.specs.Sheet.{Contents, encode, fitting}
+use Rattle.sheet.specs.Sheet.{Contents, encode}
+use Rattle.sheet.specs.Inner.{fitting}
 use Rattle.sheet.specs.Reading.{decode, said}
 use Rattle.sheet.proofs.Laws.{encode-injective}
 use Rattle.filling.proofs.RoundTrip.{SmallTags, catalogue-fits}
 use Rattle.lent.specs.Lent.{Tables, lentBoth}
-use Rattle.catalogue.specs.Calls.{contents, writing, reading}
+use Rattle.catalogue.specs.Calls.{writing, reading}
 use Rattle.catalogue.specs.Demands.{listedIn, Writes, Agree, SheetsTell, SheetIsWritten, SameAgain, NoOther, NoSecond}
 use Rattle.demands.proofs.Model.{HasTag, tag-order, tags-determine}
 use Rattle.demands.proofs.Brought.{Brought, brought, read-kept, sheet-again}

@@ -8,8 +8,8 @@ use native.Mathlib.Nat.{suc-mul}
 use native.Mathlib.Omega.{arith}
 use lib.ListN.{length, getD, length-append, length-map}
 use borrow.Author.Tests.{not-false, ltb-false}
-use Rattle.ground.specs.Lists.{anyb, concat, eqList, isZero}
-use Rattle.ground.specs.Calls.{Case, Reply, done, refused, isRefused, valueOf, decide, answer, setDown, Both, setBoth}
+use Rattle.ground.specs.Lists.{anyb, concat, eqList}
+use Rattle.ground.specs.Calls.{Case, Reply, refused, isRefused, valueOf, decide, answer, setDown, Both, setBoth}
 use Rattle.ground.proofs.Laws.{by-cond}
 use Rattle.ground.proofs.Calls.{whole-passes, done-passes}
 use Rattle.register.specs.Number.{goodNumber}
@@ -17,21 +17,23 @@ use Rattle.register.specs.Register.{partsOf, placeFrom, placeIn}
 use Rattle.register.specs.Calls.{lentRegister, numberRefusals, registering, lookingUp, showing}
 use Rattle.register.specs.Inner.{Ready}
 use Rattle.register.proofs.Slots.{number-short}
-use Rattle.kits.specs.Kits.{mostUnits, mostPlace, units, GoodRow, lineValue, linesFaults, listFaults}
-use Rattle.nodes.specs.Sound.{Sound}
+use Rattle.kits.specs.Kits.{mostUnits, mostPlace, units, lineValue, linesFaults, listFaults}
+use Rattle.kits.specs.Inner.{GoodRow}
+use Rattle.nodes.specs.Inner.{Sound}
 use Rattle.nodes.specs.Held.{Kit, held, tagIn, tagsOf, firstTag, beginnings, addNew, allBeginnings}
 use Rattle.nodes.proofs.Lists.{zero-or}
 use Rattle.nodes.proofs.Sorted.{Every, none, also, every-append, keep-short, allb-mem}
 use Rattle.nodes.proofs.Decided.{sound-exactly}
 use Rattle.nodes.proofs.Listing.{tags-long, tag-from}
-use Rattle.linking.specs.Links.{childWith}
 use Rattle.growing.specs.Enter.{lacks}
+use Rattle.growing.proofs.Entered.{lacks-most}
 use Rattle.index.specs.Index.{entryRefusals, missingRefusals}
 use Rattle.questions.specs.Questions.{isWithin, isContaining, fitting, anyOf, allOf}
 use Rattle.questions.proofs.Meaning.{fitting-exactly}
 use Rattle.shortfalls.specs.Shortfalls.{isAlmost}
 use Rattle.sheet.specs.Bytes.{inBytes, two, twoLimit, Bytes}
-use Rattle.sheet.specs.Sheet.{Contents, contentsOf, placeBytes, numberItem, numberItems, recordItem, recordItems, encode, goodKit, nodesNeeded}
+use Rattle.sheet.specs.Sheet.{Contents, contentsOf, placeBytes, numberItem, numberItems, recordItem, recordItems, encode, nodesNeeded}
+use Rattle.sheet.specs.Inner.{goodKit}
 use Rattle.sheet.specs.Reading.{decode, said}
 use Rattle.sheet.specs.Calls.{sheetRefusals, roomRefusals}
 use Rattle.writing.proofs.Records.{number-size, record-size, lines-few}
@@ -104,12 +106,6 @@ place-most : (k : ℕ) (n : List ℕ) (ps : List (List ℕ)) → placeFrom k n p
 unfolding placeFrom
 place-most k n [] = omega arith
 place-most k n (p ∷ ps) = by-cond (λ (x : ℕ). x ≤ k + suc (length ps)) (eqList n p) k (placeFrom (suc k) n ps) (λ _. omega arith) (λ _. omega (arith, place-most (suc k) n ps))
-
--- What a row lacks
-lacks-most : (N : List ℕ) (p : ℕ) (r : List ℕ) → lacks N p r ≤ length r
-unfolding lacks
-lacks-most N p [] = omega arith
-lacks-most N p (l ∷ r) = by-cond (λ (x : ℕ). x ≤ suc (length r)) (isZero (childWith N p l)) (suc (length r)) (lacks N (childWith N p l) r) (λ _. omega arith) (λ _. omega (arith, lacks-most N (childWith N p l) r))
 
 -- The refusals of what is lent
 lengths-plain : (T : Tables) → Every Plain (lengths T)

@@ -10,15 +10,17 @@ use Rattle.ground.specs.Laid.{laid}
 use Rattle.ground.proofs.Laws.{below-or}
 use Rattle.ground.proofs.Laid.{take-laid, length-laid}
 use Rattle.lent.specs.Lent.{Tables, tables}
-use Rattle.desk_text.specs.Parted.{upTo, parted, EndOf}
+use Rattle.desk_text.specs.Parted.{parted}
+use Rattle.desk_text.specs.Inner.{upTo, EndOf}
 use Rattle.desk_text.specs.Lines.{lineFeed, longestLine}
-use Rattle.desk_input.specs.Input.{Kept, mostKept, keptOf, allButLast, lastOf, ended, unfinished, lastLine, linesOf, answered}
+use Rattle.desk_input.specs.Inner.{Kept, mostKept, keptOf}
+use Rattle.desk_input.specs.Lines.{allButLast, lastOf, ended, unfinished, lastLine, linesOf, answered}
 use Rattle.desk_input.proofs.Cutting.{Clean, clean-none, clean-append, firstLine, behindFirst, goes-on-ended, goes-on-unfinished, ends-ended, ends-unfinished, kept-clean, unfinished-clean, ended-on, unfinished-on, answered-append, piece-answers, piece-keeps, last-answers}
 use Rattle.desk_lines.specs.Desk.{leftBy}
 use Rattle.desk_lines.specs.Inner.{Room}
 use Rattle.desk_lines.proofs.Left.{overlong-leaves}
-use Rattle.desk.specs.Sizes.{outputPlaces, sheetBytes, replyBytes}
-use Rattle.desk.specs.Serving.{AtHand, Keeps, Takes, Serves}
+use Rattle.desk.specs.Inner.{outputPlaces, sheetBytes, replyBytes, AtHand, Keeps, Takes}
+use Rattle.desk.specs.Desk.{Serves}
 
 -- of an overlong line what is kept is overlong too
 pub left-by-kept : (l : List ℕ) (T : Tables) → leftBy (keptOf l) T ≡ leftBy l T

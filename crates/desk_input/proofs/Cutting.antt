@@ -9,10 +9,12 @@ use lib.ListN.{length, take, drop}
 use lib.Dec.{eqb}
 use Rattle.ground.specs.Lists.{concat}
 use Rattle.ground.proofs.Laws.{below-or}
-use Rattle.desk_text.specs.Parted.{upTo, inFront, parted}
+use Rattle.desk_text.specs.Parted.{inFront, parted}
+use Rattle.desk_text.specs.Inner.{upTo}
 use Rattle.desk_text.specs.Lines.{lineFeed}
 use Rattle.desk_text.proofs.Parted.{upTo-inside, parted-last, parted-more}
-use Rattle.desk_input.specs.Input.{allButLast, lastOf, ended, unfinished, lastLine, linesOf, mostKept, keptOf, answered, taken}
+use Rattle.desk_input.specs.Lines.{allButLast, lastOf, ended, unfinished, lastLine, linesOf, answered}
+use Rattle.desk_input.specs.Inner.{mostKept, keptOf, taken}
 
 -- b does not stand in k
 abbrev pub Clean : ℕ → List ℕ → Type 0

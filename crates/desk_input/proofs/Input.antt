@@ -7,7 +7,7 @@ use lib.ListN.{length, take}
 use lib.Seq.{length-take-le, take-all}
 use Rattle.ground.specs.Laid.{laid}
 use Rattle.ground.proofs.Laid.{length-laid}
-use Rattle.desk_input.specs.Input.{Kept}
+use Rattle.desk_input.specs.Inner.{Kept}
 
 module _ (old : List ℕ) (n : ℕ) (bs : List ℕ) where
   pub room-length : length old - n < length bs → length (take (length old - n) bs) ≡ length old - n

@@ -1,2 +1,3 @@
 -- Document 01, "The desk program": the lines of an input that is read in pieces.
-pub mod Input
+pub mod Lines
+pub mod Inner

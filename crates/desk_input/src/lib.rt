@@ -1,8 +1,7 @@
 // Document 01, "The desk program": what is kept of a line while the input is read in pieces.
-ghost use mathlib.Core.Path.{_≡_};
 ghost use Prim.Native.Nat.{_≤_};
 ghost use lib.ListN.{length};
-ghost use Rattle.desk_input.specs.Input.{Kept};
+ghost use Rattle.desk_input.specs.Inner.{Kept};
 use ground::copy_in;
 
 // Keeps as many of the bytes as there is room for behind the first n.

@@ -28,11 +28,12 @@ use Rattle.desk_text.specs.Letters as letter
 use Rattle.desk_text.specs.Lines.{goodLine, fieldsOf}
 use Rattle.desk_replies.specs.Replies.{replyLine, otherLine, tagsOf, Put}
 use Rattle.desk_replies.proofs.Replies.{put-same}
-use Rattle.desk_lists.specs.Typed.{Typed, typed, stopped, said, wordsRead, lookedUp}
+use Rattle.desk_lists.specs.Typed.{Typed, typed, stopped, lookedUp}
+use Rattle.desk_lists.specs.Inner.{said, wordsRead}
 use Rattle.desk_lists.specs.declared.Read.{Read}
 use Rattle.desk_lists.specs.declared.Read.the-variants as read
-use Rattle.desk_lines.specs.Desk.{Answered, typedFields, called, shown, registerLine, writeLine, withList, asked, askLine, insertLine, inserted, wellFormed, atDesk}
-use Rattle.desk_lines.specs.Inner.{Answers, setDownBy, printed, stopNumber}
+use Rattle.desk_lines.specs.Desk.{Answered, typedFields, called, shown, registerLine, writeLine, withList, asked, askLine, insertLine, inserted, wellFormed, atDesk, Answers}
+use Rattle.desk_lines.specs.Inner.{setDownBy, printed, stopNumber}
 
 -- a register that is ready stays so, whatever is registered
 same-length-allowed : (M R : List ℕ) → length M ≡ length R → registerLength M ≡ registerLength R

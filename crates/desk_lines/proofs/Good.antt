@@ -5,18 +5,18 @@ use mathlib.Core.Bool.{Bool, true, false, _&&_, false≢true}
 use mathlib.Core.List.{List, [], _∷_}
 use Prim.Native.Nat.{ℕ, _+_, _≤_, _<_}
 use native.Mathlib.Omega.{arith}
-use lib.ListN.{length, getD, take, drop}
+use lib.ListN.{length, getD, drop}
 use lib.Dec.{eqb, leb}
 use borrow.Author.Tests.{eqb-true, eqb-false, leb-true}
 use Rattle.ground.specs.Lists.{allb, anyb}
 use Rattle.ground.proofs.Laws.{and-left, and-right, every-at, below-or}
-use Rattle.desk_text.specs.Parted.{EndOf, upTo}
+use Rattle.desk_text.specs.Inner.{EndOf, upTo}
 use Rattle.desk_text.specs.Amounts.{goodAmount}
 use Rattle.desk_text.specs.Letters.{registers, inserts, writes, takesList}
 use Rattle.desk_text.specs.Lines.{space, longestLine, fieldsOf, fieldsFrom, filled, goodPairs, goodKit, goodBehind, goodFields, goodLine}
 use Rattle.desk_text.proofs.Parted.{parted-from, from-step, end-there}
 use Rattle.desk_text.proofs.Lines.{fieldAt, all-from, filled-yes, count-step, count-end, kit-step, kit-end, letter-other, letter-one, behind-registers, behind-inserts, behind-other, behind-list}
-use Rattle.desk_lists.specs.Typed.{Pairs}
+use Rattle.desk_lists.specs.Inner.{Pairs}
 use Rattle.desk_lines.specs.Desk.{typedFields}
 
 filled-first : (f : List ℕ) (fs : List (List ℕ)) → allb filled (f ∷ fs) ≡ (leb 1 (length f) && allb filled fs)

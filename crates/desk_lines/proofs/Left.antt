@@ -13,8 +13,7 @@ use Rattle.desk_text.specs.Lines.{longestLine, goodLine}
 use Rattle.desk_text.proofs.Lines.{line-long}
 use Rattle.desk_replies.specs.Replies.{otherLine}
 use Rattle.desk_lists.specs.Typed.{Typed, typed, stopped, lookedUp}
-use Rattle.desk_lines.specs.Desk.{Answered, typedFields, atDesk, wellFormed, writeLine, askLine, asked, withList, leftBy}
-use Rattle.desk_lines.specs.Inner.{Answers}
+use Rattle.desk_lines.specs.Desk.{Answered, typedFields, atDesk, wellFormed, writeLine, askLine, asked, withList, leftBy, Answers}
 
 -- the reply lies inside the output
 pub reply-inside : (a : Answered) (old : List ℕ) (r : ℕ) (new : List ℕ) (T : Tables) → Answers a old r new T → length new ≡ length old → r ≤ length new

@@ -1,5 +1,5 @@
 -- What each kind of line leaves in the outputs, by the tests that lead to it; and what a line promises is all that could meet it.
-use mathlib.Core.Path.{_≡_, refl, ap, sym, _∙_}
+use mathlib.Core.Path.{_≡_, ap, sym, _∙_}
 use mathlib.Core.Bool.{true, false}
 use mathlib.Core.List.{List}
 use Prim.Native.Nat.{ℕ}
@@ -11,12 +11,12 @@ use Rattle.lent.specs.Lent.{Tables}
 use Rattle.catalogue.specs.Calls.{allKits, writing}
 use Rattle.desk_text.specs.Letters as letter
 use Rattle.desk_text.specs.Lines.{goodLine}
-use Rattle.desk_lists.specs.Typed.{Typed, typed, stopped, said, lookedUp}
+use Rattle.desk_lists.specs.Typed.{typed, stopped, lookedUp}
+use Rattle.desk_lists.specs.Inner.{said}
 use Rattle.desk_lists.specs.declared.Read.{Read}
 use Rattle.desk_lists.specs.declared.Read.the-variants as read
-use Rattle.desk_lines.specs.Desk.{Answered, typedFields, atDesk}
-use Rattle.desk_lines.specs.Inner.{Answers}
-use Rattle.desk_lines.specs.Outputs.{askedPlaces, typedPlaces, askPlaces, placesAfter, sheetAfter, Outputs}
+use Rattle.desk_lines.specs.Desk.{typedFields, atDesk, Answers}
+use Rattle.desk_lines.specs.Inner.{askedPlaces, typedPlaces, askPlaces, placesAfter, sheetAfter, Outputs}
 
 -- a question on a list
 module _ (x : ℕ) (o : List ℕ) (T : Tables) (l : List ℕ) where

@@ -1,4 +1,5 @@
 -- Document 01, "The desk program": what each line answers, and the tables afterwards, over the definitions of the calls.
+use mathlib.Core.Path.{_≡_}
 use mathlib.Core.Bool.{cond}
 use mathlib.Core.List.{List, [], _∷_}
 use Prim.Native.Nat.{ℕ}
@@ -12,7 +13,7 @@ use Rattle.catalogue.specs.Calls.{onRegister, inserting, finding, deleting, any
 use Rattle.desk_text.specs.Amounts.{amountOf}
 use Rattle.desk_text.specs.Letters as letter
 use Rattle.desk_text.specs.Lines.{space, fieldsOf, goodLine}
-use Rattle.desk_replies.specs.Replies.{hexOf, tagsOf, replyLine, otherLine}
+use Rattle.desk_replies.specs.Replies.{hexOf, tagsOf, replyLine, otherLine, Put}
 use Rattle.desk_lists.specs.Typed.{Typed, typed, stopped, lookedUp}
 
 -- a reply, and the tables afterwards
@@ -83,3 +84,8 @@ atDesk l o s T = cond (goodLine l) (wellFormed l o s T) (record { says = otherLi
 -- the tables after a line: the same whatever outputs are lent (proofs/Left, `left-by`)
 unfoldable pub leftBy : List ℕ → Tables → Tables
 leftBy l T = atDesk l [] [] T .after
+
+-- What answering a line promises: the reply stands at the start of the output, r bytes long, and the tables are what they should be
+pub record Answers (a : Answered) (old : List ℕ) (r : ℕ) (new : List ℕ) (T : Tables) : Type 0 where
+  pub put : Put old 0 (a .says) r new
+  pub left : T ≡ a .after

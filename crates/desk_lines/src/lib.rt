@@ -1,7 +1,7 @@
 // Document 01, "The desk program": a line in, a reply in bytes out, over lent tables and lent outputs.
 ghost use mathlib.Core.Path.{_≡_};
 ghost use mathlib.Core.Bool.{true};
-ghost use mathlib.Core.List.{[], _∷_};
+ghost use mathlib.Core.List.{[]};
 ghost use Prim.Native.Nat.{_+_, _*_, _≤_};
 ghost use lib.ListN.{length};
 ghost use Rattle.ground.specs.Calls.{numberOf, valueOf, memory};
@@ -12,11 +12,11 @@ ghost use Rattle.catalogue.specs.Calls.{writing};
 ghost use Rattle.desk_text.specs.Lines.{goodLine};
 ghost use Rattle.desk_text.specs.Letters.{registers, inserts};
 ghost use Rattle.desk_text.specs.Letters.{writes as writesLetter};
-ghost use Rattle.desk_replies.specs.Replies.{replyLine, tagsOf, headRoom, tagRoom, Put};
-ghost use Rattle.desk_lists.specs.Typed.{Pairs};
-ghost use Rattle.desk_lines.specs.Desk.{sheetText, registerLine, writeLine, insertLine, asked, askLine, atDesk};
-ghost use Rattle.desk_lines.specs.Inner.{Room, Begins, Answers, setDownBy, printed, stopNumber};
-ghost use Rattle.desk_lines.specs.Outputs.{askedPlaces, askPlaces, Outputs};
+ghost use Rattle.desk_replies.specs.Replies.{replyLine, tagsOf, Put};
+ghost use Rattle.desk_replies.specs.Inner.{headRoom, tagRoom};
+ghost use Rattle.desk_lists.specs.Inner.{Pairs};
+ghost use Rattle.desk_lines.specs.Desk.{sheetText, registerLine, writeLine, insertLine, asked, askLine, atDesk, Answers};
+ghost use Rattle.desk_lines.specs.Inner.{Room, Begins, setDownBy, printed, stopNumber, askedPlaces, askPlaces, Outputs};
 use desk_lists::Read;
 use desk_lists::read_list;
 use desk_replies::put_listing;

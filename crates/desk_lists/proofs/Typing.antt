@@ -1,6 +1,6 @@
 -- Laws of the list that a line types, read pair by pair.
 use mathlib.Core.Path.{_≡_, refl, ap, sym, _∙_}
-use mathlib.Core.Bool.{true, false, false≢true}
+use mathlib.Core.Bool.{true, false≢true}
 use mathlib.Core.Logic.{_⊎_, inl, inr}
 use mathlib.Core.List.{List, [], _∷_, _++_, append-assoc, append-nil}
 use Prim.Native.Nat.{ℕ, _+_, _≤_, _<_}
@@ -12,12 +12,13 @@ use Rattle.ground.specs.Calls.{done, refused, answer}
 use Rattle.ground.proofs.Laws.{and-left, and-right, below-or}
 use Rattle.ground.proofs.Laid.{laid-one, laid-cons, take-laid, length-laid}
 use Rattle.register.specs.Calls.{lookingUp}
-use Rattle.desk_text.specs.Parted.{EndOf, upTo}
+use Rattle.desk_text.specs.Inner.{EndOf, upTo}
 use Rattle.desk_text.specs.Amounts.{goodAmount, amountOf}
 use Rattle.desk_text.specs.Lines.{space, fieldsFrom, filled, goodPairs}
 use Rattle.desk_text.proofs.Parted.{from-none, from-step, end-there}
 use Rattle.desk_text.proofs.Lines.{fieldAt, filled-no, filled-yes, pairs-odd, pairs-step}
-use Rattle.desk_lists.specs.Typed.{Typed, typed, stopped, inFrontOf, lookedUp, Pairs, mostWords}
+use Rattle.desk_lists.specs.Typed.{Typed, typed, stopped, inFrontOf, lookedUp}
+use Rattle.desk_lists.specs.Inner.{Pairs, mostWords}
 
 -- two words set, one behind the other
 pub two-set : (l : List ℕ) (at a b : ℕ) → at + 2 ≤ length l → set (set l at a) (at + 1) b ≡ laid l at (a ∷ (b ∷ []))

@@ -5,7 +5,7 @@ ghost use Prim.Native.Nat.{_+_, _≤_};
 ghost use lib.ListN.{length};
 ghost use Rattle.ground.specs.Laid.{laid};
 ghost use Rattle.register.specs.Inner.{Ready};
-ghost use Rattle.desk_lists.specs.Typed.{Pairs, mostWords, ReadAs};
+ghost use Rattle.desk_lists.specs.Inner.{Pairs, mostWords, ReadAs};
 use desk_text::SPACE;
 use desk_text::end_of;
 use desk_text::read_amount;

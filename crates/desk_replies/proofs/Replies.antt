@@ -14,9 +14,9 @@ use Rattle.ground.specs.Laid.{laid}
 use Rattle.ground.proofs.Laws.{below-or}
 use Rattle.ground.proofs.Laid.{laid-nil, laid-one, laid-laid, length-laid}
 use Rattle.desk_text.specs.Amounts.{zeroDigit}
-use Rattle.desk_text.specs.Lines.{space}
-use Rattle.desk_replies.specs.Replies.{digits, decimal, hexDigit, hexOf, tagsOf, replyHead, replyLine, headRoom, tagRoom, Put}
-use Rattle.desk_text.specs.Lines.{lineFeed}
+use Rattle.desk_text.specs.Lines.{space, lineFeed}
+use Rattle.desk_replies.specs.Replies.{digits, decimal, hexDigit, hexOf, tagsOf, replyHead, replyLine, Put}
+use Rattle.desk_replies.specs.Inner.{headRoom, tagRoom}
 
 -- room for as many digits as a number has units is room enough
 digits-enough : (k m n : ℕ) → n < k → n < m → digits k n ≡ digits m n

@@ -43,14 +43,6 @@ replyLine letter number value rest = replyHead letter number value ++ (rest ++ (
 abbrev pub otherLine : List ℕ
 otherLine = 63 ∷ (lineFeed ∷ [])
 
--- a letter, two spaces and two numbers below 2^64, of at most twenty digits each
-abbrev pub headRoom : ℕ
-headRoom = 43
-
--- a space and the five digits of a tag
-abbrev pub tagRoom : ℕ
-tagRoom = 6
-
 -- bs were set down in an output from a position on, and r is the position behind them
 pub record Put (old : List ℕ) (at : ℕ) (bs : List ℕ) (r : ℕ) (new : List ℕ) : Type 0 where
   pub behind : r ≡ at + length bs

@@ -11,7 +11,8 @@ use lib.Dec.{leb}
 use borrow.Author.Tests.{le-leb, lt-leb, leb-true}
 use Rattle.ground.specs.Lists.{allb, every}
 use Rattle.ground.proofs.Laws.{and-left}
-use Rattle.desk_text.specs.Amounts.{zeroDigit, largestAmount, isDigit, spelt, amountOf, leadingZero, small, goodAmount, amountWhere, amountIn}
+use Rattle.desk_text.specs.Amounts.{zeroDigit, largestAmount, isDigit, spelt, amountOf, leadingZero, small, goodAmount}
+use Rattle.desk_text.specs.Inner.{amountWhere, amountIn}
 use Rattle.desk_text.specs.declared.Amount.{Amount}
 
 pub no-amount-where : (b : Bool) (v : ℕ) → b ≡ false → amountWhere b v ≡ amountWhere false 0

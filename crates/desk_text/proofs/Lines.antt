@@ -9,7 +9,7 @@ use lib.Seq.{length-take-le}
 use lib.Dec.{eqb}
 use borrow.Author.Tests.{eq-eqb, ne-eqb, le-leb, lt-leb}
 use Rattle.ground.specs.Lists.{allb, anyb, every}
-use Rattle.desk_text.specs.Parted.{EndOf}
+use Rattle.desk_text.specs.Inner.{EndOf}
 use Rattle.desk_text.specs.Amounts.{goodAmount}
 use Rattle.desk_text.specs.Lines.{space, longestLine, fieldsOf, fieldsFrom, filled, goodPairs, goodKit, goodBehind, goodFields, goodLine}
 use Rattle.desk_text.specs.Letters.{registers, inserts, writes, takesList}

@@ -9,7 +9,8 @@ use lib.ListN.{length, getD, take, drop, drop-of-length-le, length-drop}
 use lib.Seq.{drop-cons, drop-drop, take-all}
 use lib.Dec.{eqb}
 use borrow.Author.Tests.{eq-eqb, ne-eqb, eqb-true, eqb-false, le-leb, lt-leb}
-use Rattle.desk_text.specs.Parted.{upTo, inFront, parted, partedFrom, EndOf}
+use Rattle.desk_text.specs.Parted.{inFront, parted, partedFrom}
+use Rattle.desk_text.specs.Inner.{upTo, EndOf}
 
 -- one step towards the end of a stretch
 module _ (b : ℕ) (l : List ℕ) (i : ℕ) where

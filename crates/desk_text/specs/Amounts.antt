@@ -1,11 +1,10 @@
 -- Document 01, "The desk program": tags and quantities.
-use mathlib.Core.Bool.{Bool, _&&_, cond, not}
+use mathlib.Core.Bool.{Bool, _&&_, not}
 use mathlib.Core.List.{List, [], _∷_}
 use Prim.Native.Nat.{ℕ, _+_, _-_, _*_}
 use lib.ListN.{length, getD}
 use lib.Dec.{leb, eqb}
 use Rattle.ground.specs.Lists.{allb, every}
-use Rattle.desk_text.specs.declared.Amount.{Amount}
 
 -- the byte of the digit 0; the others follow it
 abbrev pub zeroDigit : ℕ
@@ -42,10 +41,3 @@ small f = every (allb isDigit f ∷ (leb (amountOf f) largestAmount ∷ []))
 -- "Tags and quantities are one to five digits, no leading zero unless just 0, at most 65,535"
 unfoldable pub goodAmount : List ℕ → Bool
 goodAmount f = every (leb 1 (length f) ∷ (leb (length f) mostDigits ∷ (not (leadingZero f) ∷ (small f ∷ []))))
-
--- whether a field is a good amount, with its value; 0 where it is none
-unfoldable pub amountWhere : Bool → ℕ → Amount
-amountWhere b v = record { good = b; value = cond b v 0 }
-
-abbrev pub amountIn : List ℕ → Amount
-amountIn f = amountWhere (goodAmount f) (amountOf f)

@@ -3,3 +3,4 @@ pub mod Parted
 pub mod Amounts
 pub mod Letters
 pub mod Lines
+pub mod Inner

@@ -7,22 +7,22 @@ use native.Mathlib.Omega.{arith}
 use lib.ListN.{length, take, drop}
 use Rattle.ground.specs.Laid.{zeroed}
 use Rattle.ground.specs.Calls.{Reply, Promise}
-use Rattle.kits.specs.Kits.{mostUnits, mostPlace, units, GoodRow}
-use Rattle.kits.specs.Rows.{unitsIn, rowOf}
+use Rattle.kits.specs.Kits.{mostUnits, mostPlace, units}
+use Rattle.kits.specs.Inner.{GoodRow, unitsIn, rowOf}
 use Rattle.kits.specs.declared.Row.{Row}
 use Rattle.kits.proofs.Rows.{row-back}
-use Rattle.nodes.specs.Sound.{Sound}
+use Rattle.nodes.specs.Inner.{Sound}
 use Rattle.nodes.specs.Held.{Kit}
 use Rattle.nodes.proofs.Sorted.{every-mem}
 use Rattle.growing.specs.Enter.{enter, enterAll}
-use Rattle.index.specs.Index.{insertingRow}
+use Rattle.index.specs.Inner.{insertingRow}
 use Rattle.beginnings.proofs.Filled.{Fit, Fillable, fill-next}
 use Rattle.sheet.specs.Bytes.{fromBytes}
 use Rattle.sheet.specs.Sheet.{placeBytes}
 use Rattle.sheet.specs.Reading.{recordSize, kitIn}
-use Rattle.judging.specs.Judged.{recordAt, recordEnd, listAt, WholeAt}
+use Rattle.judging.specs.Inner.{recordAt, recordEnd, listAt, WholeAt}
 use Rattle.judging.proofs.Records.{size-at, end-whole, tag-is, row-is}
-use Rattle.filling.specs.Read.{kitsRead, endRead, KitsStand}
+use Rattle.filling.specs.Inner.{kitsRead, endRead, KitsStand}
 use Rattle.filling.proofs.Listed.{kits-fillable, inserting-enters}
 
 module _ (s : List ℕ) where

@@ -8,8 +8,7 @@ use lib.ListN.{length}
 use lib.Dec.{leb}
 use borrow.Author.Tests.{not-false, leb-true}
 use Rattle.kits.specs.Kits.{mostUnits, mostPlace, units, goodList}
-use Rattle.kits.specs.Checks.{checkOf}
-use Rattle.kits.specs.Rows.{rowOf}
+use Rattle.kits.specs.Inner.{checkOf, rowOf}
 use Rattle.kits.specs.declared.Row.{Row}
 use Rattle.kits.specs.declared.Checked.{Checked}
 use Rattle.kits.specs.declared.Checked.the-variants.{Good}

@@ -2,7 +2,7 @@
 use mathlib.Core.Path.{_≡_, refl, sym, ap, _∙_}
 use mathlib.Core.Bool.{Bool, true, false, cond, not, _&&_}
 use mathlib.Core.List.{List, [], _∷_, _++_, map, append-assoc, append-nil, List·Memᴰ}
-use Prim.Native.Nat.{ℕ, zero, suc, _+_, _≤_, _<_}
+use Prim.Native.Nat.{ℕ, zero, suc, _≤_, _<_}
 use native.Mathlib.Omega.{arith}
 use lib.ListN.{length}
 use lib.Dec.{eqb}
@@ -10,15 +10,14 @@ use borrow.Author.Tests.{ne-eqb}
 use Rattle.ground.specs.Lists.{keep, from}
 use Rattle.ground.proofs.Laws.{length-from}
 use Rattle.nodes.specs.Nodes.{parent, child, next, label, tag, tagged, size, rowOf}
-use Rattle.nodes.specs.Sound.{Used, Live, Shape}
-use Rattle.nodes.specs.Walk.{walk, walkAll}
+use Rattle.nodes.specs.Inner.{Used, Live, Shape, walk, walkAll}
 use Rattle.nodes.specs.Held.{Kit, tagsOf, kitAt, held}
 use Rattle.nodes.proofs.Sorted.{keep-append, keep-same, keep-short, no-longer, mem-from}
 use Rattle.nodes.proofs.Rows.{climb, used-pos, live-inside, row-step}
 use Rattle.nodes.proofs.Walk.{walk-none, walk-some, ind}
 use Rattle.nodes.proofs.Order.{walk-once, walk-only}
 use Rattle.nodes.proofs.Held.{held-is-walk}
-use Rattle.questions.specs.Walks.{answers, foundFrom, foundIn, ifTag}
+use Rattle.questions.specs.Inner.{answers, foundFrom, foundIn, ifTag}
 
 -- a word of node i with the tag t, where the test b says yes
 kept-word : (f : ℕ → ℕ) (i : ℕ) (b : Bool) (t : ℕ) → map f (cond (b && not (eqb t 0)) (i ∷ []) []) ≡ ifTag (cond b t 0) (f i)

@@ -8,7 +8,7 @@ use lib.Dec.{ltb, eqb}
 use borrow.Author.Tests.{eqb-true, eqb-false, eq-eqb, ne-eqb, ltb-true, ltb-false, lt-ltb, le-ltb}
 use Rattle.ground.proofs.Laws.{by-cond}
 use Rattle.kits.specs.Kits.{mostPlace, count}
-use Rattle.kits.specs.Along.{Counts}
+use Rattle.kits.specs.Inner.{Counts}
 use Rattle.kits.proofs.Along.{count-next, upto-none, upto-next}
 use Rattle.kits.proofs.Inclusion.{count-none, Rises, on}
 use Rattle.kits.proofs.Units.{Upto, no-more, place}

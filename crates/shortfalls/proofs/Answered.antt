@@ -9,18 +9,18 @@ use lib.Dec.{leb}
 use Rattle.ground.specs.Calls.{done, refused, Promise, both, setBoth}
 use Rattle.ground.proofs.Calls.{set-both-full, set-both-done}
 use Rattle.kits.specs.Kits.{mostPlace, goodList, units}
-use Rattle.kits.specs.Rows.{quantities}
+use Rattle.kits.specs.Inner.{quantities}
 use Rattle.kits.proofs.Along.{quantities-count}
 use Rattle.kits.proofs.Good.{good-lines}
 use Rattle.kits.proofs.Inclusion.{rises-none}
 use Rattle.kits.proofs.Units.{units-rise, row-rises, row-upto}
 use Rattle.nodes.specs.Nodes.{tag, size, rowOf}
-use Rattle.nodes.specs.Sound.{Shape}
+use Rattle.nodes.specs.Inner.{Shape}
 use Rattle.nodes.specs.Held.{Kit, tagsOf, kitAt, held}
 use Rattle.nodes.proofs.Sorted.{map-same}
 use Rattle.nodes.proofs.Held.{held-good}
 use Rattle.questions.specs.Questions.{fitting, allOf}
-use Rattle.questions.specs.Walks.{foundIn}
+use Rattle.questions.specs.Inner.{foundIn}
 use Rattle.questions.proofs.Written.{wrote-laid}
 use Rattle.questions.proofs.Found.{found-few, kits-found, tags-at}
 use Rattle.questions.proofs.Meaning.{fitting-exactly}

@@ -2,7 +2,8 @@
 use mathlib.Core.Path.{_≡_, refl}
 use mathlib.Core.List.{[], _∷_}
 use Rattle.ground.specs.Lists.{from}
-use Rattle.kits.specs.Kits.{count, quantity}
+use Rattle.kits.specs.Kits.{count}
+use Rattle.kits.specs.Inner.{quantity}
 use Rattle.shortfalls.specs.Shortfalls.{sumOver, lacking, shortfall}
 use Rattle.shortfalls.specs.Inner.{linesShort}
 

@@ -10,7 +10,8 @@ use lib.ListN.{length, getD, replicate}
 use borrow.Author.Tests.{leb-true, le-leb}
 use Rattle.ground.specs.Lists.{keep}
 use Rattle.ground.proofs.Laws.{same-cases}
-use Rattle.kits.specs.Kits.{mostPlace, Within, GoodRow}
+use Rattle.kits.specs.Kits.{mostPlace, Within}
+use Rattle.kits.specs.Inner.{GoodRow}
 use Rattle.kits.proofs.Inclusion.{includes-within, within-includes}
 use Rattle.kits.proofs.Units.{row-rises, row-upto}
 use Rattle.nodes.specs.Held.{Kit, tagsOf}

@@ -9,13 +9,14 @@ use lib.ListN.{replicate}
 use lib.Dec.{eqb}
 use borrow.Author.Tests.{eq-eqb, ne-eqb}
 use Rattle.ground.specs.Lists.{from}
+use Rattle.ground.proofs.Laws.{le-or}
 use Rattle.kits.specs.Kits.{mostPlace, goodList, units, count, Within}
 use Rattle.kits.proofs.Along.{count-next, count-next-other, upto-none}
 use Rattle.kits.proofs.Good.{GoodLines, none, line, good-lines}
 use Rattle.kits.proofs.Inclusion.{count-none, count-append, rises-none}
 use Rattle.kits.proofs.Quantities.{quantity-count, count-replicate}
 use Rattle.kits.proofs.Units.{Upto, units-rise}
-use Rattle.nodes.proofs.Lists.{same-or, le-or}
+use Rattle.nodes.proofs.Lists.{same-or}
 use Rattle.shortfalls.specs.Shortfalls.{sumOver, lacking, shortfall}
 use Rattle.shortfalls.specs.Inner.{linesShort}
 

@@ -9,11 +9,10 @@ use borrow.Author.Tests.{le-leb, lt-leb}
 use Rattle.ground.specs.Lists.{keep}
 use Rattle.kits.specs.Kits.{mostPlace}
 use Rattle.nodes.specs.Nodes.{mostNodes, parent, child, next, label, tag, size, rowOf}
-use Rattle.nodes.specs.Sound.{Used, Shape}
-use Rattle.nodes.specs.Walk.{rank}
+use Rattle.nodes.specs.Inner.{Used, Shape, rank}
 use Rattle.nodes.proofs.Rows.{climb, row-root, row-step}
 use Rattle.nodes.proofs.Walk.{root-inside, root-child, child-live, child-less, next-less}
-use Rattle.questions.specs.Walks.{answers, foundFrom, foundIn, ifTag, someTag}
+use Rattle.questions.specs.Inner.{answers, foundFrom, foundIn, ifTag, someTag}
 use Rattle.questions.proofs.Found.{own-word, found-none, found-step, found-root, found-few, found-past}
 use Rattle.shortfalls.specs.declared.Passed.{Passed}
 use Rattle.shortfalls.specs.Shortfalls.{mostShort}

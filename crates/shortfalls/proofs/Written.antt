@@ -4,7 +4,7 @@ use mathlib.Core.List.{List, [], _++_, map}
 use Prim.Native.Nat.{ℕ, _+_}
 use lib.ListN.{set}
 use Rattle.ground.proofs.Laws.{map-append}
-use Rattle.questions.specs.Walks.{ifTag, someTag}
+use Rattle.questions.specs.Inner.{ifTag, someTag}
 use Rattle.questions.proofs.Written.{no-word, wrote-none, wrote-one, wrote-same, wrote-on}
 use Rattle.shortfalls.specs.Inner.{WroteBoth}
 

@@ -1,15 +1,16 @@
--- What the walk for a shortfall keeps, and the shortfall line by line: for contracts of functions that others do not call, and for a law. No promise
--- rests on this file.
+-- Inner: no promise of the house rests on what stands here; inner contracts and proofs speak by it.
+-- What the walk for a shortfall keeps, and the shortfall line by line.
 use mathlib.Core.Path.{_≡_}
 use mathlib.Core.Bool.{Bool, cond}
 use mathlib.Core.List.{List, [], _∷_, map}
 use Prim.Native.Nat.{ℕ, _+_, _-_, _≤_, _<_}
 use lib.Dec.{leb, ltb, eqb}
 use lib.ListN.{getD}
-use Rattle.kits.specs.Kits.{mostPlace, quantity}
+use Rattle.kits.specs.Kits.{mostPlace}
+use Rattle.kits.specs.Inner.{quantity}
 use Rattle.nodes.specs.Nodes.{parent, tag, rowOf}
-use Rattle.nodes.specs.Sound.{Live, Shape}
-use Rattle.questions.specs.Walks.{foundFrom, foundIn, Wrote}
+use Rattle.nodes.specs.Inner.{Live, Shape}
+use Rattle.questions.specs.Inner.{foundFrom, foundIn, Wrote}
 use Rattle.shortfalls.specs.Shortfalls.{mostShort}
 use Rattle.shortfalls.specs.declared.Passed.{Passed}
 

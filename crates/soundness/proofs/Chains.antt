@@ -9,11 +9,10 @@ use lib.Dec.{eqb}
 use lib.ListN.{length, length-append}
 use borrow.Author.Tests.{eqb-false, eq-eqb, ne-eqb, not-true}
 use Rattle.ground.specs.Lists.{from, keep, isZero}
-use Rattle.ground.specs.Says.{Says}
+use Rattle.ground.specs.Inner.{Says}
 use Rattle.ground.proofs.Laws.{from-step, from-end, length-from}
 use Rattle.nodes.specs.Nodes.{parent, child, next, label, size, nodesOf, chain, children}
-use Rattle.nodes.specs.Sound.{Used, Live, OnChain, here, later}
-use Rattle.nodes.specs.Walk.{Siblings}
+use Rattle.nodes.specs.Inner.{Used, Live, OnChain, here, later, Siblings}
 use Rattle.nodes.proofs.Lists.{countFrom-yes, countFrom-no, countFrom-end}
 use Rattle.nodes.proofs.Fields.{from-root}
 use Rattle.nodes.proofs.Sorted.{Every, Rising, none, also, ahead, every-mem, mem-every, rising-append, rising-weaken, rising-keep, rising-from, keep-short, keep-mem, mem-keep, no-longer, all-met, same-length}

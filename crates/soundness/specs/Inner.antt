@@ -1,13 +1,13 @@
--- No promise rests on this file: `nodes_sound` decides `nodesSound` (nodes, specs/Sound), and here is what each of its passes asks on the way: of a
--- node by itself, of the chains together, of the equal labels on a path, of the tags.
+-- Inner: no promise of the house rests on what stands here; inner contracts and proofs speak by it.
+-- `nodes_sound` decides `nodesSound` (nodes, specs/Sound): what each of its passes asks on the way, of a node by itself, of the chains together, of the
+-- equal labels on a path, of the tags.
 use mathlib.Core.Path.{_≡_}
 use mathlib.Core.List.{List}
 use Prim.Native.Nat.{ℕ, _+_, _/_, _%_, _^_, _<_, _≤_}
 use lib.ListN.{length}
 use Rattle.kits.specs.Kits.{count, mostUnits, mostQuantity}
 use Rattle.nodes.specs.Nodes.{parent, child, next, label, depth, tag, size, rowOf, chain}
-use Rattle.nodes.specs.Sound.{Used, Live, Zero, OnChain, Head}
-use Rattle.nodes.specs.Walk.{Links}
+use Rattle.nodes.specs.Inner.{Used, Live, Zero, OnChain, Head, Links}
 
 -- what is asked of every node of the table
 pub record Each (N : List ℕ) (P : ℕ → Type 0) : Type 0 where

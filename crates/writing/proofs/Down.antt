@@ -8,7 +8,7 @@ use lib.ListN.{length, take, drop, set, length-append, length-set}
 use borrow.Rule.Slice.PartMut.{putMid}
 use Rattle.ground.specs.Laid.{laid}
 use Rattle.ground.proofs.Laid.{laid-nil, laid-one, laid-cons, laid-laid, laid-set, laid-lent, length-laid, room}
-use Rattle.writing.specs.Written.{SetDown}
+use Rattle.writing.specs.Inner.{SetDown}
 
 -- the rest of an output from a place on, as it is lent; and the output when it has come back
 abbrev pub rest-of : List ℕ → ℕ → List ℕ

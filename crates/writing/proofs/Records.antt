@@ -10,10 +10,10 @@ use lib.Seq.{drop-set-lt, drop-cons, getD-set-same}
 use borrow.Author.Tests.{eq-eqb, ne-eqb}
 use Rattle.ground.specs.Lists.{keep, from, concat}
 use Rattle.ground.specs.Laid.{laid}
-use Rattle.ground.proofs.Laws.{from-step, from-end, map-append}
+use Rattle.ground.proofs.Laws.{from-step, from-end, map-append, empty-list}
 use Rattle.ground.proofs.Laid.{laid-front}
-use Rattle.kits.specs.Kits.{mostUnits, mostPlace, linesFrom, listOf, GoodRow}
-use Rattle.kits.specs.Rows.{lineAt, unitsIn, rowOf}
+use Rattle.kits.specs.Kits.{mostUnits, mostPlace, linesFrom, listOf}
+use Rattle.kits.specs.Inner.{GoodRow, lineAt, unitsIn, rowOf}
 use Rattle.kits.specs.declared.Row.{Row}
 use Rattle.kits.specs.declared.Line.{Line}
 use Rattle.kits.proofs.Rows.{lines-from, line-next, no-lines, run-short, row-back}
@@ -21,8 +21,7 @@ use Rattle.kits.proofs.Good.{good-lines}
 use Rattle.kits.proofs.Units.{row-list-good}
 use Rattle.register.specs.Register.{numberAt}
 use Rattle.nodes.specs.Nodes.{tag, child, next, parent, label, depth, tagged, size}
-use Rattle.nodes.specs.Sound.{Shape, Used, Live}
-use Rattle.nodes.specs.Walk.{walk, walkAll}
+use Rattle.nodes.specs.Inner.{Shape, Used, Live, walk, walkAll}
 use Rattle.nodes.specs.Held.{Kit, kitAt}
 use Rattle.nodes.proofs.Sorted.{keep-append}
 use Rattle.nodes.proofs.Walk.{walk-none, walk-some}
@@ -31,7 +30,7 @@ use Rattle.sheet.specs.Bytes.{inBytes, two}
 use Rattle.sheet.specs.Sheet.{placeBytes, numberItem, numberItems, lineItems, recordItem, recordItems}
 use Rattle.sheet.proofs.Written.{items-length}
 use Rattle.writing.proofs.Down.{Going, down-at, down-byte, going-of}
-use Rattle.writing.specs.Written.{SetDown, kitOf, nodeRow, numbersFrom, kitsAt, recordsAt, ownRecord, recordsFrom}
+use Rattle.writing.specs.Inner.{SetDown, kitOf, nodeRow, numbersFrom, kitsAt, recordsAt, ownRecord, recordsFrom}
 
 -- records one behind the other
 records-both : (w : ℕ) (a b : List Kit) → recordItems w (a ++ b) ≡ recordItems w a ++ recordItems w b
@@ -176,11 +175,7 @@ module _ (N : List ℕ) (S : Shape mostPlace N) (i : ℕ) (u : Live N i) where
 
   -- at the root
   pub row-over : depth N i ≡ 0 → nodeRow N i ≡ []
-  row-over e = none-left (nodeRow N i) (sym node-deep ∙ e)
-    where
-      none-left : (l : List ℕ) → length l ≡ 0 → l ≡ []
-      none-left [] e = refl
-      none-left (x ∷ l) e = absurd (omega arith)
+  row-over e = empty-list (nodeRow N i) (sym node-deep ∙ e)
 
 -- how many kits end at nodes, by number
 module _ (N : List ℕ) (n i : ℕ) (h : i < n) where

@@ -6,22 +6,21 @@ use Prim.Native.Nat.{ℕ, _+_, _≤_, _<_}
 use native.Mathlib.Omega.{arith}
 use lib.ListN.{length, length-append}
 use Rattle.ground.specs.Lists.{keep, concat}
-use Rattle.ground.specs.Calls.{done, refused, decide, answer, Promise}
+use Rattle.ground.specs.Calls.{done, refused, Promise}
 use Rattle.ground.proofs.Calls.{set-down-full, set-down-done}
 use Rattle.kits.specs.Kits.{before, mostPlace}
 use Rattle.register.specs.Register.{partsOf}
 use Rattle.register.specs.Inner.{Ready}
 use Rattle.register.proofs.Sound.{ready-holds, holds-parts}
 use Rattle.nodes.specs.Nodes.{nodesOf, tagged}
-use Rattle.nodes.specs.Sound.{Shape}
-use Rattle.nodes.specs.Walk.{walkAll}
+use Rattle.nodes.specs.Inner.{Shape, walkAll}
 use Rattle.nodes.specs.Held.{Kit, putKit, inOrder, kitAt, held}
 use Rattle.nodes.proofs.Held.{held-is-walk}
 use Rattle.sheet.specs.Bytes.{two}
 use Rattle.sheet.specs.Sheet.{Contents, contentsOf, mark, version, placeBytes, numberItems, recordItem, recordItems, encode}
 use Rattle.sheet.specs.Calls.{writing}
 use Rattle.sheet.proofs.Numbers.{two-length}
-use Rattle.writing.specs.Written.{SetDown, headItems, numbersFrom, kitsAt, recordsAt}
+use Rattle.writing.specs.Inner.{SetDown, headItems, numbersFrom, kitsAt, recordsAt}
 
 -- putting kits in order changes neither their number nor their bytes
 bytes-of : (w : ℕ) (k : Kit) (ks : List Kit) → length (recordItems w (k ∷ ks)) ≡ length (recordItem w k) + length (recordItems w ks)

@@ -1,2 +1,2 @@
 -- Document 01, "Write the sheet at the start of a lent output".
-pub mod Written
+pub mod Inner

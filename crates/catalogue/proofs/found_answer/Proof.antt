@@ -1,4 +1,4 @@
-use Rattle.index.specs.Index.{foundReply}
+use Rattle.index.specs.Inner.{foundReply}
 use Rattle.ground.specs.Calls.{done}
 use mathlib.Core.Path.{sym, ap, _∙_}
 use borrow.Author.Needs.{needs}

@@ -1,4 +1,4 @@
-use Rattle.index.specs.Index.{insertedReply}
+use Rattle.index.specs.Inner.{insertedReply}
 use mathlib.Core.Path.{sym, ap}
 use borrow.Author.Needs.{needs}
 use Rattle.catalogue.proofs.inserted_answer.Statement.{statement}

@@ -1,4 +1,4 @@
-use Rattle.questions.specs.Questions.{listedReply}
+use Rattle.questions.specs.Inner.{listedReply}
 use mathlib.Core.Path.{sym, ap}
 use borrow.Author.Needs.{needs}
 use Rattle.catalogue.proofs.listed_answer.Statement.{statement}

@@ -1,4 +1,4 @@
-use Rattle.filling.specs.Read.{readReply}
+use Rattle.filling.specs.Inner.{readReply}
 use mathlib.Core.Path.{sym, ap}
 use borrow.Author.Needs.{needs}
 use Rattle.catalogue.proofs.read_answer.Statement.{statement}

@@ -1,4 +1,4 @@
-use Rattle.writing.specs.Written.{writtenReply}
+use Rattle.writing.specs.Inner.{writtenReply}
 use mathlib.Core.Path.{sym, ap}
 use borrow.Author.Needs.{needs}
 use Rattle.catalogue.proofs.written_answer.Statement.{statement}

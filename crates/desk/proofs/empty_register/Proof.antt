@@ -1,5 +1,5 @@
 use Rattle.desk.proofs.Empty.{empty-ready}
-use Rattle.desk.specs.Sizes.{slots}
+use Rattle.desk.specs.Inner.{slots}
 use native.Mathlib.Omega.{arith}
 use mathlib.Core.Path.{refl}
 use Rattle.desk.proofs.empty_register.Statement.{statement}

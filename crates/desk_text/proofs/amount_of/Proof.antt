@@ -1,5 +1,5 @@
 use mathlib.Core.Path.{refl}
-use Rattle.desk_text.specs.Amounts.{amountWhere}
+use Rattle.desk_text.specs.Inner.{amountWhere}
 use borrow.Author.Needs.{needs}
 use Rattle.desk_text.proofs.amount_of.Statement.{statement}
 use Rattle.desk_text.proofs.amount_of.Tie as tie

@@ -2,7 +2,7 @@ use mathlib.Core.Path.{_≡_, refl}
 use Prim.Native.Nat.{_+_, _-_, _≤_}
 use native.Mathlib.Omega.{arith}
 use lib.ListN.{length, drop}
-use Rattle.desk_text.specs.Parted.{upTo}
+use Rattle.desk_text.specs.Inner.{upTo}
 use Rattle.desk_text.proofs.Parted.{upTo-here, upTo-on, upTo-end}
 use Rattle.desk_text.proofs.end_of.Statement.{statement}
 use Rattle.desk_text.proofs.end_of.Tie as tie

@@ -1,7 +1,7 @@
 use mathlib.Core.Path.{sym, _∙_, subst}
 use Prim.Native.Nat.{ℕ}
 use borrow.Author.Tests.{not-true, not-false}
-use Rattle.desk_text.specs.Parted.{EndOf}
+use Rattle.desk_text.specs.Inner.{EndOf}
 use Rattle.desk_text.specs.Lines.{space}
 use Rattle.desk_text.proofs.Lines.{letter-other, letter-one, line-empty, line-long, line-gap, line-fields}
 use borrow.Author.Needs.{needs}

@@ -1,5 +1,5 @@
 use mathlib.Core.Path.{refl}
-use Rattle.desk_text.specs.Amounts.{amountWhere}
+use Rattle.desk_text.specs.Inner.{amountWhere}
 use Rattle.desk_text.proofs.no_amount.Statement.{statement}
 use Rattle.desk_text.proofs.no_amount.Tie as tie
 

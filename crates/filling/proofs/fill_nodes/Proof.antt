@@ -4,8 +4,8 @@ use Prim.Native.Nat.{ℕ, _-_, _≤_}
 use native.Mathlib.Omega.{arith}
 use lib.ListN.{length}
 use Rattle.growing.specs.Enter.{enterAll}
-use Rattle.index.specs.Index.{insertedReply}
-use Rattle.filling.specs.Read.{kitsRead}
+use Rattle.index.specs.Inner.{insertedReply}
+use Rattle.filling.specs.Inner.{kitsRead}
 use Rattle.filling.proofs.Kits.{Filling, filling-start, filling-end, filling-on, record-whole, units-short, may-insert}
 use Rattle.filling.proofs.fill_nodes.Statement.{statement}
 use Rattle.filling.proofs.fill_nodes.Tie as tie

@@ -4,7 +4,7 @@ use mathlib.Core.Path.{_≡_}
 use Prim.Native.Nat.{_≤_, _-_}
 use lib.ListN.{length}
 use Rattle.kits.specs.Kits.{mostUnits}
-use Rattle.kits.specs.Rows.{unitsIn}
+use Rattle.kits.specs.Inner.{unitsIn}
 use Rattle.kits.proofs.Rows.{row-wide, row-length, line-after}
 use Rattle.kits_run.proofs.put_lines.Statement.{statement}
 use Rattle.kits_run.proofs.put_lines.Tie as tie

@@ -3,11 +3,11 @@ use mathlib.Core.Path.{refl, ap, _∙_}
 use native.Mathlib.Omega.{arith}
 use lib.ListN.{length, length-map}
 use Rattle.nodes.specs.Nodes.{tag}
-use Rattle.questions.specs.Walks.{foundFrom}
+use Rattle.questions.specs.Inner.{foundFrom}
 use Rattle.shortfalls.specs.Inner.{almost, shortAt}
 use Rattle.shortfalls.proofs.Written.{nodes-none, nodes-same}
 use Rattle.shortfalls.proofs.Walked.{Seen, link-inside, none-at, in-table, may-pass, to-next, left-out, to-child, room, set-down}
-use Rattle.nodes.specs.Walk.{rank}
+use Rattle.nodes.specs.Inner.{rank}
 use Prim.Native.Nat.{ℕ, _<_}
 use borrow.Fn.Kinds.{In}
 use borrow.Fn.PlainCycle.{Measures, is, falls, and}

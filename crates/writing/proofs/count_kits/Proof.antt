@@ -5,7 +5,7 @@ use lib.ListN.{length}
 use Rattle.ground.specs.Lists.{from}
 use Rattle.nodes.specs.Nodes.{size, nodesOf}
 use Rattle.nodes.proofs.Fields.{from-root}
-use Rattle.writing.specs.Written.{kitsAt}
+use Rattle.writing.specs.Inner.{kitsAt}
 use Rattle.writing.proofs.Records.{kits-yes, kits-no, kits-end}
 use Rattle.writing.proofs.count_kits.Statement.{statement}
 use Rattle.writing.proofs.count_kits.Tie as tie

@@ -5,7 +5,7 @@ use native.Mathlib.Omega.{arith}
 use lib.ListN.{length, length-append}
 use Rattle.register.specs.Register.{numberAt}
 use Rattle.sheet.specs.Sheet.{numberItem}
-use Rattle.writing.specs.Written.{numbersFrom}
+use Rattle.writing.specs.Inner.{numbersFrom}
 use Rattle.writing.proofs.Records.{numbers-step, numbers-end, number-size}
 use Rattle.writing.proofs.numbers_size.Statement.{statement}
 use Rattle.writing.proofs.numbers_size.Tie as tie

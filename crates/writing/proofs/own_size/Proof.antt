@@ -3,10 +3,10 @@ use Prim.Native.Nat.{_+_, _*_, _/_, _≤_}
 use native.Mathlib.Omega.{arith}
 use lib.ListN.{length}
 use Rattle.kits.specs.Kits.{listOf}
-use Rattle.kits.specs.Rows.{unitsIn}
-use Rattle.nodes.specs.Sound.{Live}
+use Rattle.kits.specs.Inner.{unitsIn}
+use Rattle.nodes.specs.Inner.{Live}
 use Rattle.nodes.proofs.Held.{tagged-live}
-use Rattle.writing.specs.Written.{ownRecord}
+use Rattle.writing.specs.Inner.{ownRecord}
 use Rattle.writing.proofs.Records.{own-none, own-length}
 use Rattle.writing.proofs.own_size.Statement.{statement}
 use Rattle.writing.proofs.own_size.Tie as tie

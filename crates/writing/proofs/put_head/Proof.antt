@@ -7,7 +7,7 @@ use borrow.Rule.Slice.PartMut.{putMid}
 use Rattle.sheet.specs.Bytes.{two, inBytes}
 use Rattle.sheet.specs.Sheet.{version}
 use Rattle.sheet.proofs.Numbers.{two-length}
-use Rattle.writing.specs.Written.{headItems}
+use Rattle.writing.specs.Inner.{headItems}
 use Rattle.writing.proofs.Down.{Going, going-of, going-room, going-inside, going-on, last-inside, last-room, going-last, down-size}
 use borrow.Author.Needs.{needs}
 use Rattle.writing.proofs.put_head.Statement.{statement}

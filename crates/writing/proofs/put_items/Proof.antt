@@ -3,11 +3,11 @@ use mathlib.Core.List.{List, _++_}
 use Prim.Native.Nat.{ℕ, _+_, _-_}
 use native.Mathlib.Omega.{arith}
 use Rattle.register.proofs.Sound.{ready-short}
-use Rattle.nodes.specs.Walk.{walkAll}
+use Rattle.nodes.specs.Inner.{walkAll}
 use Rattle.sheet.specs.Bytes.{two}
 use Rattle.sheet.specs.Sheet.{encode, contentsOf}
 use Rattle.sheet.proofs.Numbers.{two-length}
-use Rattle.writing.specs.Written.{SetDown, headItems, numbersFrom, recordsAt}
+use Rattle.writing.specs.Inner.{SetDown, headItems, numbersFrom, recordsAt}
 use Rattle.writing.proofs.Down.{Going, rest-of, back, down-same, down-size, first-room, going-of, going-room, going-inside, going-on, last-inside, last-room, going-last}
 use Rattle.writing.proofs.Whole.{sheet-items}
 use borrow.Author.Needs.{needs}

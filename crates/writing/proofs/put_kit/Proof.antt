@@ -5,11 +5,11 @@ use Prim.Native.Nat.{_/_, _<_}
 use native.Mathlib.Omega.{arith}
 use lib.ListN.{length, set, length-map}
 use Rattle.kits.specs.Kits.{mostUnits, listOf}
-use Rattle.kits.specs.Rows.{unitsIn}
+use Rattle.kits.specs.Inner.{unitsIn}
 use Rattle.kits.proofs.Rows.{row-length}
 use Rattle.sheet.specs.Bytes.{inBytes}
 use Rattle.sheet.specs.Sheet.{placeBytes, lineItems, recordItem}
-use Rattle.writing.specs.Written.{kitOf}
+use Rattle.writing.specs.Inner.{kitOf}
 use Rattle.writing.proofs.Down.{Going, last-inside, last-room, going-last}
 use Rattle.writing.proofs.Records.{kit-going, lines-few}
 use borrow.Author.Needs.{needs}

@@ -6,7 +6,7 @@ use Prim.Native.Nat.{ℕ, _+_, _-_, _<_, _≤_}
 use native.Mathlib.Omega.{arith}
 use lib.ListN.{length, drop, length-map}
 use Rattle.kits.specs.Kits.{mostUnits, listOf}
-use Rattle.kits.specs.Rows.{unitsIn}
+use Rattle.kits.specs.Inner.{unitsIn}
 use Rattle.kits.proofs.Rows.{row-length}
 use Rattle.sheet.specs.Bytes.{inBytes}
 use Rattle.sheet.specs.Sheet.{placeBytes, lineItems}

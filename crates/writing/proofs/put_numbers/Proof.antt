@@ -6,7 +6,7 @@ use native.Mathlib.Omega.{arith}
 use lib.ListN.{length}
 use Rattle.register.specs.Register.{numberAt}
 use Rattle.sheet.specs.Sheet.{numberItem}
-use Rattle.writing.specs.Written.{numbersFrom}
+use Rattle.writing.specs.Inner.{numbersFrom}
 use Rattle.writing.proofs.Down.{Going, going-start, going-same, going-room, going-inside, going-on, going-end}
 use Rattle.writing.proofs.Records.{numbers-step, numbers-end}
 use Rattle.writing.proofs.put_numbers.Statement.{statement}

@@ -1,10 +1,10 @@
 use mathlib.Core.Path.{_≡_, sym, _∙_}
 use native.Mathlib.Omega.{arith}
-use Rattle.kits.specs.Rows.{unitsIn}
-use Rattle.nodes.specs.Sound.{Live}
+use Rattle.kits.specs.Inner.{unitsIn}
+use Rattle.nodes.specs.Inner.{Live}
 use Rattle.nodes.proofs.Held.{tagged-live}
 use Rattle.sheet.specs.Sheet.{placeBytes, recordItem}
-use Rattle.writing.specs.Written.{kitOf, ownRecord}
+use Rattle.writing.specs.Inner.{kitOf, ownRecord}
 use Rattle.writing.proofs.Down.{down-none, down-same, down-size}
 use Rattle.writing.proofs.Records.{own-none, own-record}
 use Rattle.writing.proofs.put_own.Statement.{statement}

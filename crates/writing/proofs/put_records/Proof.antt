@@ -2,9 +2,9 @@ use mathlib.Core.Path.{ap}
 use Prim.Native.Nat.{_+_, _-_}
 use native.Mathlib.Omega.{arith}
 use Rattle.nodes.specs.Nodes.{child, size}
-use Rattle.nodes.specs.Walk.{walkAll}
+use Rattle.nodes.specs.Inner.{walkAll}
 use Rattle.nodes.proofs.Walk.{root-inside, root-child}
-use Rattle.writing.specs.Written.{SetDown, ownRecord, recordsFrom, recordsAt}
+use Rattle.writing.specs.Inner.{SetDown, ownRecord, recordsFrom, recordsAt}
 use Rattle.writing.proofs.Down.{Going, rest-of, back, down-same, down-size, first-room, going-of, last-inside, last-room, going-last}
 use Rattle.writing.proofs.Records.{root-first}
 use borrow.Author.Needs.{needs}

@@ -5,7 +5,7 @@ use lib.ListN.{length, length-append}
 use Rattle.ground.specs.Lists.{from}
 use Rattle.nodes.specs.Nodes.{size, nodesOf}
 use Rattle.nodes.proofs.Fields.{from-root}
-use Rattle.writing.specs.Written.{ownRecord, recordsAt}
+use Rattle.writing.specs.Inner.{ownRecord, recordsAt}
 use Rattle.writing.proofs.Records.{records-step, records-end}
 use Rattle.writing.proofs.records_size.Statement.{statement}
 use Rattle.writing.proofs.records_size.Tie as tie

@@ -9,8 +9,8 @@ use Rattle.kits.specs.Kits.{mostUnits, mostPlace}
 use Rattle.kits.specs.declared.Row.{Row}
 use Rattle.kits.proofs.Lists.{laid-zeros}
 use Rattle.nodes.specs.Nodes.{depth}
-use Rattle.nodes.specs.Sound.{Live, Shape}
-use Rattle.writing.specs.Written.{nodeRow}
+use Rattle.nodes.specs.Inner.{Live, Shape}
+use Rattle.writing.specs.Inner.{nodeRow}
 use Rattle.writing.proofs.Records.{node-short, node-deep, node-inside, row-up, up-deep, up-live, row-over}
 use Rattle.writing.proofs.row_at.Statement.{statement}
 use Rattle.writing.proofs.row_at.Tie as tie

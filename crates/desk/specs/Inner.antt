@@ -1,15 +1,39 @@
--- Document 01, "The desk program": what answering a line, and taking a piece of the input, leaves. No contract can say what is written.
+-- Inner: no promise of the house rests on what stands here; inner contracts and proofs speak by it.
+-- The desk's sizes, and what a piece of the input leaves.
 use mathlib.Core.Path.{_≡_}
 use mathlib.Core.List.{List, _++_}
 use Prim.Native.Nat.{ℕ, _≤_}
 use lib.ListN.{length, take}
 use Rattle.register.specs.Inner.{Ready}
 use Rattle.lent.specs.Lent.{Tables}
-use Rattle.desk_text.specs.Parted.{upTo}
+use Rattle.desk_text.specs.Inner.{upTo}
 use Rattle.desk_text.specs.Lines.{lineFeed}
-use Rattle.desk_input.specs.Input.{mostKept, keptOf, ended, unfinished, linesOf, answered}
+use Rattle.desk_input.specs.Inner.{mostKept, keptOf}
+use Rattle.desk_input.specs.Lines.{ended, unfinished, answered}
 use Rattle.desk_lines.specs.Desk.{leftBy}
 use Rattle.desk_lines.specs.Inner.{Room}
+
+------------------------------------------------------------------------
+-- "It reads standard input with 255 slots, 2,048 nodes, 2,048 output places and 8,192 sheet bytes."
+
+abbrev pub slots : ℕ
+slots = 255
+
+abbrev pub nodes : ℕ
+nodes = 2048
+
+abbrev pub outputPlaces : ℕ
+outputPlaces = 2048
+
+abbrev pub sheetBytes : ℕ
+sheetBytes = 8192
+
+-- room for the longest reply, the one to W: a letter, a number, a value, a space, two digits for each byte of the sheet, a line feed
+abbrev pub replyBytes : ℕ
+replyBytes = 16640
+
+------------------------------------------------------------------------
+-- What answering a line, and taking a piece of the input, leaves
 
 -- what the desk has at hand, and keeps: a sound register, room for every reply
 pub record AtHand (T : Tables) (places sheet out : List ℕ) : Type 0 where
@@ -27,8 +51,3 @@ pub record Takes (k piece : List ℕ) (T : Tables) (r : ℕ) (kept : List ℕ) (
   pub keeps : Keeps kept r
   pub left : take r kept ≡ keptOf (unfinished (k ++ piece))
   pub tables : U ≡ answered leftBy (ended (k ++ piece)) T
-
--- the whole input was read and its lines were answered; what was read, a contract cannot say
-pub record Serves (T U : Tables) : Type 0 where
-  pub input : List ℕ
-  pub tables : U ≡ answered leftBy (linesOf input) T

@@ -1,3 +1,4 @@
+-- Inner: no promise of the house rests on what stands here; inner contracts and proofs speak by it.
 -- What each of the writer's functions sets down, and the paper's number and value of the writer's answers.
 use mathlib.Core.Path.{_≡_}
 use mathlib.Core.List.{List, [], _∷_, _++_, map}
@@ -6,11 +7,11 @@ use lib.ListN.{length}
 use Rattle.ground.specs.Lists.{keep, from}
 use Rattle.ground.specs.Laid.{laid}
 use Rattle.ground.specs.Calls.{Reply, done, refused}
+use Rattle.register.specs.Register.{numberAt, partsOf}
 use Rattle.nodes.specs.Nodes.{tagged}
 use Rattle.nodes.specs.Nodes as table
-use Rattle.nodes.specs.Walk.{walk}
+use Rattle.nodes.specs.Inner.{walk}
 use Rattle.nodes.specs.Held.{Kit, kitAt, held}
-use Rattle.register.specs.Register.{numberAt, partsOf}
 use Rattle.sheet.specs.Bytes.{two}
 use Rattle.sheet.specs.Sheet.{placeBytes, mark, version, numberItems, recordItems}
 use Rattle.sheet.specs.declared.Sheet.{Sheet}

@@ -1,3 +1,4 @@
+-- Inner: no promise of the house rests on what stands here; inner contracts and proofs speak by it.
 -- A reply as a program holds it, and the reply of document 01 that it stands for.
 use mathlib.Core.Path.{_≡_}
 use Rattle.ground.specs.Calls as paper

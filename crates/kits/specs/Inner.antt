@@ -1,0 +1,160 @@
+-- Inner: no promise of the house rests on what stands here; inner contracts and proofs speak by it.
+-- Good rows, the answers of the check, rows of 64 places and their lines, and inclusion decided label by label.
+use mathlib.Core.Path.{_≡_}
+use mathlib.Core.Bool.{Bool, true, false, _&&_, _||_, cond}
+use mathlib.Core.List.{List, [], _∷_, _++_, map}
+use Prim.Native.Nat.{ℕ, suc, _+_, _/_, _%_, _≤_, _<_, _-_}
+use lib.ListN.{length, replicate, getD, take, drop}
+use lib.Dec.{leb, ltb, eqb}
+use Rattle.ground.specs.Lists.{isZero, eqList, from, firstOr}
+use Rattle.ground.specs.Calls.{Reply, done, refused}
+use Rattle.kits.specs.Kits.{mostQuantity, mostUnits, mostPlace, lineValue, count, before, listOf}
+use Rattle.kits.specs.declared.Checked.{Checked}
+use Rattle.kits.specs.declared.Checked.the-variants.{Good, Odd, Falls, Beyond, Amount}
+use Rattle.kits.specs.declared.Row.{Row}
+use Rattle.kits.specs.declared.Line.{Line}
+use Rattle.kits.specs.declared.Compared.{Compared}
+use Rattle.kits.specs.declared.Compared.the-variants.{Before, Same, After}
+
+------------------------------------------------------------------------
+-- Lists and rows of units
+
+-- how many of a place a list has, all its lines together
+unfoldable pub quantity : List ℕ → ℕ → ℕ
+quantity [] p = 0
+quantity (x ∷ []) p = 0
+quantity (x ∷ (q ∷ l)) p = cond (eqb p x) q 0 + quantity l p
+
+-- a set: "a kit with every quantity 1"
+unfoldable pub oneEach : List ℕ → Bool
+oneEach [] = true
+oneEach (p ∷ []) = true
+oneEach (p ∷ (q ∷ l)) = eqb q 1 && oneEach l
+
+-- a row begins another
+unfoldable pub begins : List ℕ → List ℕ → Bool
+begins [] b = true
+begins (x ∷ a) [] = false
+begins (x ∷ a) (y ∷ b) = eqb x y && begins a b
+
+-- in how many places at their front two rows agree
+unfoldable pub agreed : List ℕ → List ℕ → ℕ
+agreed [] b = 0
+agreed (x ∷ a) [] = 0
+agreed (x ∷ a) (y ∷ b) = cond (eqb x y) (suc (agreed a b)) 0
+
+-- The unit row of a kit, with n parts registered: at most 64 units, in rising order, each the place of a part, and of none more than 15
+pub record GoodRow (n : ℕ) (r : List ℕ) : Type 0 where
+  pub short : length r ≤ mostUnits
+  pub rises : (i : ℕ) → i + 1 < length r → getD r i 0 ≤ getD r (i + 1) 0
+  pub some-place : (i : ℕ) → i < length r → 0 < getD r i 0
+  pub a-place : (i : ℕ) → i < length r → getD r i 0 ≤ n
+  pub few : (p : ℕ) → count p r ≤ mostQuantity
+
+------------------------------------------------------------------------
+-- The check of a list, "4 for odd length; then line by line 4, 5, 6": its answer, and the paper's number of each
+
+-- the answer of one check; where it is good, that of the next
+unfoldable pub orElse : Checked → Checked → Checked
+orElse Good d = d
+orElse (Odd k) d = Odd k
+orElse (Falls k) d = Falls k
+orElse (Beyond k) d = Beyond k
+orElse (Amount k) d = Amount k
+
+-- line k is `p q`, behind the place prev, with n parts registered
+unfoldable pub lineCheck : ℕ → ℕ → ℕ → ℕ → ℕ → Checked
+lineCheck n prev k p q =
+    cond (isZero p || leb p prev) (Falls k)
+    (cond (ltb n p) (Beyond k)
+    (cond (isZero q || ltb mostQuantity q) (Amount k)
+    Good))
+
+unfoldable pub linesCheck : ℕ → ℕ → ℕ → List ℕ → Checked
+linesCheck n prev k [] = Good
+linesCheck n prev k (p ∷ []) = Good
+linesCheck n prev k (p ∷ (q ∷ l)) = orElse (lineCheck n prev k p q) (linesCheck n p (suc k) l)
+
+-- an odd list is charged to the line that lacks its quantity
+unfoldable pub checkOf : ℕ → List ℕ → Checked
+checkOf n l = cond (eqb (length l % 2) 1) (Odd (length l / 2 + 1)) (linesCheck n 0 1 l)
+
+-- the paper's number and value of each answer
+unfoldable pub checkReply : Checked → Reply
+checkReply Good = done 0
+checkReply (Odd k) = refused 4 (lineValue k)
+checkReply (Falls k) = refused 4 (lineValue k)
+checkReply (Beyond k) = refused 5 (lineValue k)
+checkReply (Amount k) = refused 6 (lineValue k)
+
+------------------------------------------------------------------------
+-- A kit "held once a checked list as a fixed row of 64 places with its length": rows, their order, and their lines
+
+-- the row of some units; what lies behind them is 0
+abbrev pub rowOf : List ℕ → Row
+rowOf us = record { places = us ++ replicate (mostUnits - length us) 0; len = length us }
+
+-- the units of a row
+abbrev pub unitsIn : Row → List ℕ
+unitsIn r = take (r .len) (r .places)
+
+-- how two rows of units stand in listing order
+unfoldable pub compared : List ℕ → List ℕ → Compared
+compared a b = cond (before a b) Before (cond (eqList a b) Same After)
+
+-- a bin's quantity at each place, from 0 on
+unfoldable pub quantities : List ℕ → List ℕ
+quantities l = map (quantity l) (from 0 (mostPlace + 1))
+
+-- how often p stands at the front of some units
+unfoldable pub run : ℕ → List ℕ → ℕ
+run p [] = 0
+run p (x ∷ xs) = cond (eqb x p) (suc (run p xs)) 0
+
+-- the line of some units that starts at a position, and where the next starts
+unfoldable pub lineAt : List ℕ → ℕ → Line
+lineAt us at = record {
+  place = getD us at 0;
+  quantity = run (getD us at 0) (drop at us);
+  next = at + run (getD us at 0) (drop at us);
+}
+
+-- of how many lines the list of some units is
+abbrev pub lineCount : List ℕ → ℕ
+lineCount us = length (listOf us) / 2
+
+------------------------------------------------------------------------
+-- Inclusion decided label by label along a row: what a walk over rows keeps of the labels that it has passed
+
+-- Q has, at each place, how often the units have it
+abbrev pub Counts : List ℕ → List ℕ → Type 0
+Counts Q us = (p : ℕ) → getD Q p 0 ≡ count p us
+
+-- a row within a bin whose quantities are Q: each label in turn must not be used up; `last` has come `had` times
+unfoldable pub fitsAlong : List ℕ → ℕ → ℕ → List ℕ → Bool
+fitsAlong Q last had [] = true
+fitsAlong Q last had (x ∷ r) = cond (eqb x last)
+    (ltb had (getD Q x 0) && fitsAlong Q last (suc had) r)
+    (ltb 0 (getD Q x 0) && fitsAlong Q x 1 r)
+
+abbrev pub isWanted : List ℕ → ℕ → Bool
+isWanted Q p = ltb 0 (getD Q p 0)
+
+-- the lowest place from a on that Q has; where there is none, the one behind the greatest
+unfoldable pub nextWanted : List ℕ → ℕ → ℕ
+nextWanted Q a = firstOr (mostPlace + 1) (isWanted Q) (from a (mostPlace + 1 - a))
+
+-- a row that contains a list whose quantities are Q: `want` is the lowest place of which too few have come, and `got` of it have;
+-- smaller labels pass, and none may come above it
+unfoldable pub coversAlong : List ℕ → ℕ → ℕ → List ℕ → Bool
+coversAlong Q want got [] = eqb want (mostPlace + 1)
+coversAlong Q want got (x ∷ r) = cond (ltb x want)
+    (coversAlong Q want got r)
+    (eqb x want && cond (ltb (suc got) (getD Q want 0)) (coversAlong Q want (suc got) r) (coversAlong Q (nextWanted Q (suc want)) 0 r))
+
+-- What is wanted behind the labels r: w is the lowest place of which they have too few, and they have g of it
+pub record Wanted (Q r : List ℕ) (w g : ℕ) : Type 0 where
+  pub most : w ≤ mostPlace + 1
+  pub enough : (p : ℕ) → p < w → getD Q p 0 ≤ count p r
+  pub got : g ≡ count w r
+  pub short : w ≤ mostPlace → g < getD Q w 0
