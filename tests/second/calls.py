@@ -1,13 +1,10 @@
 """The answer to a request: every call with its refusals in the order of documents 01 and 02."""
 
 from . import index, kits, nodes, questions, register, sheet
-from .frame import ANSWER_BLOCKS, BROKEN_ANSWER, Answer, Broken, unpack_request
+from .lent import ANSWER_BLOCKS, Answer
 from .refusals import (
     ALREADY_HELD, BAD_NUMBER, DONE, NO_ROOM, NOT_HELD, NOT_SOUND, SHEET_AT_FAULT, TAG_TAKEN,
     TAG_ZERO, TOO_FAR_SHORT, TOO_MANY_UNITS, WRONG_LENGTH, Refusal)
-
-# The letters that the probe answers today.
-PROBE_LETTERS = "eplnkfdwcWCasr"
 
 # "a number d from 0 to 64"
 MOST_SHORT = 64
@@ -222,7 +219,7 @@ def read_sheet(request):
                        "N": index.filled(node_count, read)}
 
 
-# Each call gives its value and the blocks that it changes, or raises a Refusal.
+# The calls by letter. Each gives its value and the blocks that it changes, or raises a Refusal.
 CALLS = {
     "e": empty_tables,
     "p": register_number,
@@ -239,14 +236,7 @@ CALLS = {
     "s": write_sheet,
     "r": read_sheet,
 }
-
-
-def known_letters(text):
-    """The letters given in place of the probe's, each one of the table."""
-    if not text or any(letter not in CALLS for letter in text):
-        raise ValueError("letters are some of " + "".join(CALLS))
-    return text
-
+LETTERS = "".join(CALLS)
 
 # The calls that give a stretch: the probe sends it back as O, "an empty stretch where refused".
 SHOWING = "n"
@@ -264,19 +254,3 @@ def answer(request):
         return Answer(refusal.number, refusal.value, blocks)
     blocks.update(changed)
     return Answer(DONE, value, blocks)
-
-
-def answer_stream(data, letters=PROBE_LETTERS):
-    """All that the probe writes when this is its whole input."""
-    written = []
-    offset = 0
-    while offset < len(data):
-        try:
-            if data[offset:offset + 1].decode("latin-1") not in letters:
-                raise Broken("unknown letter")
-            request, offset = unpack_request(data, offset)
-        except Broken:
-            written.append(BROKEN_ANSWER)
-            break
-        written.append(answer(request).pack())
-    return b"".join(written)

@@ -2,7 +2,7 @@
 
 from . import nodes, register
 from .calls import answer
-from .frame import Request
+from .lent import Request
 
 # "It reads standard input with 255 slots, 2,048 nodes, 2,048 output places and 8,192 sheet bytes."
 SLOTS = 255

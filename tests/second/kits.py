@@ -11,27 +11,33 @@ MOST_QUANTITY = 15
 MOST_UNITS = 64
 
 
-def checked_lines(words, parts):
-    """The list's lines as (place, quantity), or the refusal that the list gets.
+def first_fault(words, parts):
+    """The number of a list's first fault and its line; None where the list is good.
 
-    "then 4 for odd length; then line by line 4, 5, 6".
+    "then 4 for odd length; then line by line 4, 5, 6". An odd list is charged to the line that
+    lacks its quantity. No call shows the line today.
     """
     if len(words) % 2 != 0:
-        raise Refusal(BAD_ORDER)
-    lines = []
+        return BAD_ORDER, len(words) // 2 + 1
     before = 0
-    for at in range(0, len(words), 2):
-        place, quantity = words[at], words[at + 1]
+    for line, (place, quantity) in enumerate(lines_of_words(words), start=1):
         # "a place 0 or not above the one before"
         if place == 0 or place <= before:
-            raise Refusal(BAD_ORDER)
+            return BAD_ORDER, line
         if place > parts:
-            raise Refusal(BEYOND_PARTS)
+            return BEYOND_PARTS, line
         if not LEAST_QUANTITY <= quantity <= MOST_QUANTITY:
-            raise Refusal(BAD_QUANTITY)
-        lines.append((place, quantity))
+            return BAD_QUANTITY, line
         before = place
-    return lines
+    return None
+
+
+def checked_lines(words, parts):
+    """The list's lines as (place, quantity), or the refusal that the list gets."""
+    fault = first_fault(words, parts)
+    if fault:
+        raise Refusal(fault[0])
+    return lines_of_words(words)
 
 
 def units(lines):
@@ -80,6 +86,12 @@ def listing_order(held):
     how python compares tuples.
     """
     return sorted(held.items())
+
+
+def agreed(row, other):
+    """In how many places at their front two rows agree."""
+    most = min(len(row), len(other))
+    return max(length for length in range(most + 1) if row[:length] == other[:length])
 
 
 def beginnings(rows):

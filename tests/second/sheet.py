@@ -75,6 +75,17 @@ def read(data):
     items.begin()
     if items.take_number(TWO_BYTES) != VERSION:
         raise items.fault()
+    numbers = read_numbers(items)
+    kits = read_kits(items, len(numbers))
+    items.begin()
+    # "The end is at fault when bytes remain."
+    if items.at != len(data):
+        raise items.fault()
+    return numbers, kits
+
+
+def read_numbers(items):
+    """The part count and the part numbers."""
     items.begin()
     parts = items.take_number(TWO_BYTES)
     if parts > MOST_PARTS:
@@ -87,6 +98,11 @@ def read(data):
         if not good_number(number) or number in numbers:
             raise items.fault()
         numbers.append(number)
+    return numbers
+
+
+def read_kits(items, parts):
+    """The kit count and the kits, rows with tags."""
     items.begin()
     count = items.take_number(TWO_BYTES)
     kits = []
@@ -101,11 +117,7 @@ def read(data):
             raise items.fault()
         tags.add(tag)
         kits.append((row, tag))
-    items.begin()
-    # "The end is at fault when bytes remain."
-    if items.at != len(data):
-        raise items.fault()
-    return numbers, kits
+    return kits
 
 
 def read_record(items, parts):

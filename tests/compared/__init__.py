@@ -1,0 +1,1 @@
+"""What `tests/compare` compares with the second program: a module for each of its words."""

@@ -1,0 +1,66 @@
+"""Long sequences of calls of the built probe.
+
+The tables that the probe answered go into its next request. Plays the fixed sequences, then so
+many by chance: by turns one catalogue that is filled and emptied, and two catalogues whose sheets
+must agree exactly when their contents do.
+"""
+
+from made import index_sequences, sheet_sequences
+from made.chance import Chance
+from made.reached import sequences_reached
+from run.door import played
+
+from .telling import Differences, verdict
+
+PROGRAM = "probe"
+
+# Each sequence draws from its own row of chance, so that it does not hang on those before it.
+SEED_STRIDE = 1_000_003
+
+
+def add_options(parser):
+    """The options of this word."""
+    parser.add_argument("--sequences", type=int, default=300, help="how many by chance")
+
+
+class Comparison:
+    """The running count of sequences, calls and differences."""
+
+    def __init__(self, command, seed):
+        self.command = command
+        self.seed = seed
+        self.sequences = 0
+        self.calls = 0
+        self.differences = Differences()
+        self.reached = sequences_reached()
+
+    def play(self, what, sequence, *arguments):
+        """Plays one sequence in a conversation of its own, to its end or its first difference."""
+        self.sequences += 1
+        asked, lines = played(
+            self.command, lambda door: sequence(door, *arguments),
+            chance=Chance(self.seed * SEED_STRIDE + self.sequences), reached=self.reached)
+        self.calls += asked
+        if lines:
+            self.differences.tell(["sequence %d, seed %d, %s" % (
+                self.sequences, self.seed, what)] + lines)
+
+
+def by_chance(comparison, turn, two):
+    """Plays one catalogue of the kind whose turn it is, or two that end alike by turns."""
+    if two:
+        comparison.play("two catalogues", sheet_sequences.pair, turn % 2 == 0)
+    else:
+        kind = index_sequences.KINDS[turn % len(index_sequences.KINDS)]
+        comparison.play(kind.name, index_sequences.by_chance, kind)
+
+
+def compare(command, options):
+    """Compares, and says how it went; the status."""
+    comparison = Comparison(command, options.seed)
+    comparison.play("fixed", index_sequences.fixed)
+    comparison.play("4,096 nodes", index_sequences.full_table)
+    for turn in range(options.sequences):
+        by_chance(comparison, *divmod(turn, 2))
+    return verdict("sequences", comparison.reached, "%d sequences, %d calls" % (
+        comparison.sequences, comparison.calls), comparison.differences)

@@ -1,0 +1,125 @@
+"""Catalogues that are carried on from call to call.
+
+The tables that the program answered go into its next request. Beside them the second program
+carries tables of its own, and every block of every answer is compared. The contents are a third
+account, kept by the calls and replies alone.
+"""
+
+from run.door import Different
+from second import calls, nodes, register, sheet
+from second.kits import beginnings, lines_of, lines_of_words, units, words_of
+from second.lent import Request
+from second.nodes import NODE_WORDS
+from second.register import SLOT_BYTES
+
+from .reached import ANSWER, SEQUENCES
+from .requests import fill_unused
+
+# The tables, which one call leaves to the next.
+TABLES = "RN"
+
+
+class Contents:
+    """The part list and the kits with their tags, read off the accepted calls."""
+
+    def __init__(self, numbers=(), kits=()):
+        self.numbers = list(numbers)
+        self.kits = dict(kits)
+
+    def __eq__(self, other):
+        return (self.numbers, self.kits) == (other.numbers, other.kits)
+
+    def __repr__(self):
+        return "parts %s, kits %s" % (self.numbers, sorted(self.kits.items()))
+
+    def take_note(self, request, answer):
+        """The contents after this call; a refused one leaves them."""
+        if not answer.done():
+            return
+        lent = request.blocks
+        if request.letter == "e":
+            self.numbers, self.kits = [], {}
+        elif request.letter == "p":
+            self.numbers.append(lent["I"])
+        elif request.letter == "k":
+            self.kits[units(lines_of_words(lent["L"]))] = request.a
+        elif request.letter == "d":
+            del self.kits[units(lines_of_words(lent["L"]))]
+        elif request.letter == "r":
+            numbers, read = sheet.read(lent["I"])
+            self.numbers, self.kits = numbers, dict(read)
+
+    def nodes_needed(self):
+        """The nodes that the kits take: "1 plus the number of different nonempty beginnings"."""
+        return sheet.nodes_needed(self.kits.items())
+
+    def sheet(self):
+        """The sheet that the document lays down for these contents."""
+        return sheet.written(self.numbers, self.kits)
+
+
+class Catalogue:
+    """Both tables as the program left them, the second program's own, and the contents."""
+
+    def __init__(self, door, register_bytes, words):
+        self.door = door
+        self.theirs = {"R": register_bytes, "N": words}
+        self.own = {"R": register_bytes, "N": words}
+        self.contents = Contents()
+
+    def call(self, letter, a=0, **lent):
+        """The answer to this call, after which all of both accounts is the same."""
+        asked = Request(letter, a, **self.own, **lent)
+        fill_unused(self.door.chance, asked)
+        right = calls.answer(asked)
+        sent = Request(letter, asked.a, asked.b, **{**asked.blocks, **self.theirs})
+        came = self.door.ask(sent, right)
+        self.door.reached.note(letter, ANSWER % came.number)
+        self.theirs = {name: came.blocks[name] for name in TABLES}
+        self.own = {name: right.blocks[name] for name in TABLES}
+        self.contents.take_note(sent, came)
+        return came
+
+    def came_to(self, what, really=True):
+        """Counts a turn that a sequence took."""
+        if really:
+            self.door.reached.note(SEQUENCES, what)
+
+    def call_on(self, letter, row, a=0, **lent):
+        """The answer to this call on the list whose units are this row."""
+        return self.call(letter, a, L=words_of(lines_of(row)), **lent)
+
+    def slots(self):
+        """How many slots the register has."""
+        return len(self.own["R"]) // SLOT_BYTES
+
+    def nodes_used(self):
+        """How many nodes are used in the table that the program left."""
+        return len(nodes.used_numbers(nodes.nodes_of(self.theirs["N"])))
+
+    def check_contents(self):
+        """The tables that the program left are sound and hold what calls and replies tell."""
+        register_bytes, words = self.theirs["R"], self.theirs["N"]
+        if not register.sound(register_bytes) or not nodes.sound(
+                words, len(register.numbers_of(register_bytes))):
+            raise Different(["the tables are not sound; by calls and replies they hold",
+                             "  %r" % self.contents])
+        held = Contents(register.numbers_of(register_bytes), nodes.held_kits(words))
+        if held != self.contents:
+            raise Different(["the tables hold, and then by calls and replies:",
+                             "  %r" % held, "  %r" % self.contents])
+        # "nodes used are always 1 plus the number of different nonempty beginnings of held kits"
+        if self.nodes_used() != 1 + len(beginnings(held.kits)):
+            raise Different(["%d nodes used for %r" % (self.nodes_used(), held)])
+
+
+def expect(came, number, value, what):
+    """An answer must be what the document says, whatever the second program thinks."""
+    if (came.number, came.value) != (number, value):
+        raise Different(["%s: answer %d %d, by the document %d %d" % (
+            what, came.number, came.value, number, value)])
+
+
+def empty_catalogue(door, slots, node_count):
+    """A catalogue begun empty, with so many slots and nodes."""
+    return Catalogue(door, bytes(slots * SLOT_BYTES), [0] * (node_count * NODE_WORDS))

@@ -1,0 +1,134 @@
+"""Node tables, right and damaged, each with its kind, and the calls that show a verdict on it.
+
+An insertion of many units shows whether the table is sound, by 2 or another answer, and then by
+12 or the table how many of its nodes are free.
+"""
+
+from collections import namedtuple
+from itertools import count, islice
+
+from second.lent import Request
+from second.nodes import MOST_NODES, NODE_WORDS
+from second.refusals import NOT_SOUND, WRONG_LENGTH
+from second.register import MOST_SLOTS, numbers_of
+
+from . import index_requests
+from .chance import Chance
+from .index_requests import LONGEST_LIST
+from .reached import SOUND, TABLE, UNSOUND, VERDICT, WRONG
+from .tables import EDGE_WORDS, LARGE_KINDS, Stock, large_table, parts_register, raw_path, table
+
+# The kinds of tables, and the verdicts that each must get.
+LENGTHS, BROKEN, CHAINS, PATHS = "lengths", "broken tables", "broken chains", "paths"
+SIBLINGS, SWEPT, BY_CHANCE = "255 siblings", "words changed one by one", "by chance"
+LARGE = "4,096 nodes, %s"
+VERDICTS = {
+    LENGTHS: {SOUND, UNSOUND, WRONG}, BROKEN: {SOUND, UNSOUND}, CHAINS: {SOUND, UNSOUND},
+    PATHS: {SOUND, UNSOUND}, SIBLINGS: {SOUND, UNSOUND}, SWEPT: {SOUND, UNSOUND},
+    **{LARGE % kind: {SOUND, UNSOUND} for kind in LARGE_KINDS}, BY_CHANCE: {SOUND, UNSOUND},
+}
+
+# The first tag that is tried for the insertion.
+FIRST_TAG = 60001
+
+
+# A table: its kind, the parts that it is made for, all numbers of parts asked for, and its words.
+Table = namedtuple("Table", "kind own parts words")
+
+
+def around(kind, parts, words):
+    """A table beside one part less, these parts and one more."""
+    return Table(kind, parts, range(max(0, parts - 1), min(MOST_SLOTS, parts + 1) + 1), words)
+
+
+def tables_of(kind, row):
+    """Each table of these requests to the probe once, around its number of parts."""
+    seen = set()
+    for asked in row:
+        parts, words = len(numbers_of(asked.blocks["R"])), tuple(asked.blocks["N"])
+        if (parts, words) not in seen:
+            seen.add((parts, words))
+            yield around(kind, parts, words)
+
+
+def limits():
+    """Lengths, one table for each way to break a condition alone, paths at their limits."""
+    for length in (0, 1, 5, 6, 7, 11, 12, 13, 18):
+        yield Table(LENGTHS, 2, range(3), [0] * length)
+        yield Table(LENGTHS, 0, range(1), [1] * length)
+    yield from tables_of(BROKEN, index_requests.broken_tables())
+    yield from tables_of(CHAINS, index_requests.broken_chains())
+    yield from tables_of(PATHS, index_requests.raw_paths())
+    # every number of parts, and labels beyond a byte
+    yield Table(PATHS, MOST_SLOTS, range(MOST_SLOTS + 1), raw_path((1, 2)))
+    yield around(PATHS, MOST_SLOTS, raw_path((300, 65535)))
+    siblings = table(MOST_SLOTS + 1, *(
+        ((place,), 1000 - place) for place in range(MOST_SLOTS, 0, -1)))
+    yield around(SIBLINGS, MOST_SLOTS, siblings)
+    # the first and the last of 255 siblings lost from the chain, and a ring at its end
+    for at, link in ((MOST_SLOTS, 0), (1, 1), (2, 0), (MOST_SLOTS // 2, MOST_SLOTS)):
+        changed = list(siblings)
+        changed[at * NODE_WORDS + 2] = link
+        yield around(SIBLINGS, MOST_SLOTS, changed)
+
+
+def damaged(chance, words, times):
+    """The table with so many words changed, mostly to values that could be right elsewhere."""
+    words = list(words)
+    for _ in range(times):
+        at = chance.below(len(words))
+        words[at] = chance.pick((
+            0, words[at] + 1, max(0, words[at] - 1), chance.pick(words),
+            chance.below(len(words) // NODE_WORDS + 1), chance.pick(EDGE_WORDS),
+            chance.below(65536))) % 65536
+    return words
+
+
+def by_chance(chance):
+    """A table brought on by insertions and deletions, then damaged more often than not."""
+    stock = Stock(chance)
+    while True:
+        register, words, _ = stock.catalogue()
+        yield around(BY_CHANCE, len(numbers_of(register)),
+                     damaged(chance, words, chance.pick((0, 1, 1, 1, 2, 3))))
+
+
+def large(chance, damages):
+    """Tables of 4,096 nodes, whole and with damage; one node more, and one word more."""
+    for extra in (-1, 0, 1, NODE_WORDS, 2 * NODE_WORDS):
+        yield Table(LENGTHS, 1, range(2), [0] * (MOST_NODES * NODE_WORDS + extra))
+    for kind in LARGE_KINDS:
+        words = list(large_table(kind))
+        yield around(LARGE % kind, MOST_SLOTS, words)
+        for _ in range(damages):
+            changed = damaged(chance, words, chance.pick((1, 1, 2)))
+            yield Table(LARGE % kind, MOST_SLOTS, [MOST_SLOTS], changed)
+
+
+def everything(seed, wanted, damages):
+    """All fixed tables, large ones with so much damage, and so many by chance."""
+    chance = Chance(seed)
+    yield from limits()
+    yield from tables_of(SWEPT, index_requests.sweeps())
+    yield from large(chance, damages)
+    yield from islice(by_chance(chance), wanted)
+
+
+def requests_of(asked):
+    """For each number of parts an insertion of many units, with a tag that no node bears."""
+    taken = set(asked.words)
+    tag = next(tag for tag in count(FIRST_TAG) if tag not in taken)
+    for parts in asked.parts:
+        yield parts, Request(
+            "k", tag, R=parts_register(parts, min(MOST_SLOTS, parts + 1)), N=asked.words,
+            L=LONGEST_LIST[:2 * parts], note="%s, beside %d parts" % (asked.kind, parts))
+
+
+def verdict(answer):
+    """The verdict on a table that an answer shows."""
+    return {WRONG_LENGTH: WRONG, NOT_SOUND: UNSOUND}.get(answer.number, SOUND)
+
+
+def note_table(reached, asked, verdicts):
+    """Counts the verdict on a table beside its own number of parts."""
+    reached.note(TABLE, VERDICT % (asked.kind, verdicts[asked.own]))

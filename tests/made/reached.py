@@ -1,0 +1,254 @@
+"""What each word of `tests/compare` must come to, and the count of what a run came to.
+
+A thing reached is who came to it (a call, a line of the desk, a pair of lists) and what it was. A
+run that misses one tried too little; an answer that is not laid down is a fault of the second
+program.
+"""
+
+from collections import Counter
+
+from second.desk import (
+    CALL_LETTERS, LIST_LETTERS, LONGEST_LINE, NODES, OTHER_LINE, SHEET_BYTES, SLOTS, SPACE)
+from second.lent import Answer, Request
+from second.refusals import (
+    ALREADY_HELD, BAD_NUMBER, BAD_ORDER, BAD_QUANTITY, DONE, NO_ROOM, NOT_HELD, NOT_SOUND,
+    SHEET_AT_FAULT, TAG_TAKEN, TAG_ZERO, TOO_FAR_SHORT, TOO_MANY_UNITS, WRONG_LENGTH)
+
+from .sheet_requests import PRINTED_SHEET
+from .ways import ALL_WAYS, CUT_SHORT, LEFT_TO_LIMITS, LIST, sheet_read
+
+ANSWER = "answer %d"
+
+# Who came to something, where what is drawn by chance has to come to it by itself.
+BY_CHANCE = "%s by chance"
+
+
+class Reached:
+    """The running count of what a run came to, beside what it must come to.
+
+    Answers other than those that it must or may come to are not laid down.
+    """
+
+    def __init__(self, must, may=()):
+        self.must = set(must)
+        self.may = set(may)
+        self.times = Counter()
+
+    def note(self, who, *whats):
+        """Counts what came; tells whether any of it is new."""
+        new = any(self.times[who, what] == 0 for what in whats)
+        self.times.update((who, what) for what in whats)
+        return new
+
+    def told(self):
+        """All that was reached, by whomever, with how often."""
+        times = Counter()
+        for (_, what), count in self.times.items():
+            times[what] += count
+        return "; ".join("%s (%d)" % line for line in sorted(times.items(), key=in_order))
+
+    def faults(self):
+        """What was missed, and what should not have come, told in lines."""
+        came = set(self.times)
+        return (["%s never came to: %s" % missed for missed in sorted(self.must - came)]
+                + ["%s came to: %s, which is not laid down" % (who, what)
+                   for who, what in sorted(came - self.must - self.may) if is_answer(what)])
+
+
+def is_answer(what):
+    """Whether it is the number of an answer."""
+    return what.startswith(ANSWER.split("%", maxsplit=1)[0])
+
+
+def in_order(line):
+    """Answers first, by their numbers, then all else by name."""
+    what, _ = line
+    return (0, int(what.split()[-1]), "") if is_answer(what) else (1, 0, what)
+
+
+# Calls: the numbers that documents 01 and 02 lay down for each.
+
+TABLES = {DONE, WRONG_LENGTH, NOT_SOUND}
+NUMBERS = {
+    "e": {DONE, WRONG_LENGTH},
+    "p": TABLES | {BAD_NUMBER, ALREADY_HELD, NO_ROOM},
+    "l": TABLES | {BAD_NUMBER, NOT_HELD},
+    "n": TABLES | {NOT_HELD},
+    "k": TABLES | LIST | {TOO_MANY_UNITS, TAG_ZERO, ALREADY_HELD, TAG_TAKEN, NO_ROOM},
+    "f": TABLES | LIST | {NOT_HELD},
+    "d": TABLES | LIST | {NOT_HELD},
+    "w": TABLES | LIST,
+    "c": TABLES | LIST,
+    "W": TABLES | LIST | {NO_ROOM},
+    "C": TABLES | LIST | {NO_ROOM},
+    "a": TABLES | LIST | {NO_ROOM, TOO_FAR_SHORT},
+    "s": TABLES | {NO_ROOM},
+    "r": {DONE, WRONG_LENGTH, NO_ROOM, SHEET_AT_FAULT},
+}
+
+
+def answers(numbers, who="%s"):
+    """Each letter with each of its numbers."""
+    return {(who % letter, ANSWER % number) for letter, row in numbers.items() for number in row}
+
+
+# The printed sheet must be cut at every byte.
+CUT_AT = "r of %d bytes"
+ANY_CALL = BY_CHANCE % "any call"
+
+
+class CallsReached(Reached):
+    """What fixed requests for these calls come to: the numbers laid down for them, and ways."""
+
+    def __init__(self, letters, ways=ALL_WAYS):
+        self.ways = {letter: ways.get(letter, []) for letter in letters}
+        self.numbers = {letter: NUMBERS[letter] for letter in letters}
+        super().__init__(
+            answers(self.numbers) | self.all_ways()
+            | {(CUT_AT % size, CUT_SHORT) for size in range(len(PRINTED_SHEET))
+               if sheet_read in self.ways.get("r", [])})
+
+    def all_ways(self):
+        """Each call with each of its ways, as a request of nothing tells their names."""
+        nothing = Request("e")
+        done = Answer(DONE, 0, nothing.blocks)
+        return {(letter, what) for letter, row in self.ways.items()
+                for ways in row for what in ways(nothing, done)}
+
+    def ways_of(self, request, answer):
+        """The ways that this request went."""
+        return [what for ways in self.ways[request.letter]
+                for what, gone in ways(request, answer).items() if gone]
+
+    def note_call(self, request, answer):
+        """Counts one request and its right answer; tells whether it came to anything new."""
+        gone = self.ways_of(request, answer)
+        if CUT_SHORT in gone:
+            self.note(CUT_AT % len(request.blocks["I"]), CUT_SHORT)
+        return self.note(request.letter, ANSWER % answer.number, *gone)
+
+
+class AllCallsReached(CallsReached):
+    """The same with requests by chance: all numbers for each call, and most ways for any."""
+
+    def __init__(self, letters):
+        super().__init__(letters)
+        self.must |= answers(self.numbers, BY_CHANCE)
+        self.must |= {(ANY_CALL, what) for _, what in self.all_ways() if what not in LEFT_TO_LIMITS}
+
+    def note_by_chance(self, request, answer):
+        """Counts one request by chance and its right answer."""
+        self.note(BY_CHANCE % request.letter, ANSWER % answer.number)
+        self.note(ANY_CALL, *self.ways_of(request, answer))
+
+
+# Lists: what a list's check says, and how the rows of two lists stand to each other.
+
+FIXED_CHECKS = ["4 by an odd length", "above 64 units"]
+CHECKS = ["good", "4 by a place", "5", "6"]
+STANDINGS = ["before the other", "the same", "after the other", "begins the other",
+             "within the other", "not within the other", "apart from the first place on",
+             "apart behind a common beginning"]
+PAIR = "a pair"
+
+
+def lists_reached():
+    """What pairs of lists come to, fixed ones and those by chance."""
+    return Reached({(PAIR, what) for what in FIXED_CHECKS + CHECKS + STANDINGS}
+                   | {(BY_CHANCE % PAIR, what) for what in CHECKS + STANDINGS})
+
+
+# Node tables: verdicts on each kind of table.
+
+SOUND, UNSOUND, WRONG = "sound", "not sound", "of wrong length"
+VERDICT = "%s, %s"
+TABLE = "a table"
+
+
+def nodes_reached(verdicts):
+    """What tables come to, given the verdicts that each kind must get."""
+    return Reached({(TABLE, VERDICT % (kind, verdict))
+                    for kind, row in verdicts.items() for verdict in row})
+
+
+# Sequences: every number that a call can answer on tables that calls brought on, and turns.
+
+TOOK_LAST_NODE = "insertions took the last free node"
+LACKED_ONE_NODE = "insertions lacked one node"
+ENTERED_AGAIN = "kits struck out were entered again"
+ALMOST_FILLED = "listings had kits almost filled"
+ENDED_ALIKE = "pairs ended alike"
+ENDED_APART = "pairs ended apart"
+SEQUENCES = "sequences"
+
+
+def sequences_reached():
+    """What sequences of calls come to."""
+    numbers = {letter: row - {WRONG_LENGTH, NOT_SOUND} for letter, row in NUMBERS.items()}
+    turns = {TOOK_LAST_NODE, LACKED_ONE_NODE, ENTERED_AGAIN, ALMOST_FILLED, ENDED_ALIKE,
+             ENDED_APART}
+    return Reached(answers(numbers) | {(SEQUENCES, turn) for turn in turns})
+
+
+# The desk: every number that a line can get, each reason for `?`, and its own limits.
+
+LOOKED_UP = {BAD_NUMBER, NOT_HELD}
+DESK_NUMBERS = {
+    "P": {DONE, BAD_NUMBER, ALREADY_HELD, NO_ROOM},
+    "K": {DONE, TOO_MANY_UNITS, TAG_ZERO, ALREADY_HELD, TAG_TAKEN, NO_ROOM,
+          BAD_ORDER, BAD_QUANTITY} | LOOKED_UP,
+    **{letter: {DONE, BAD_ORDER, BAD_QUANTITY} | LOOKED_UP for letter in LIST_LETTERS},
+    "W": {DONE, NO_ROOM},
+}
+# Those that lines by chance come to often.
+OFTEN = {**{letter: {DONE} for letter in CALL_LETTERS}, "P": {DONE, ALREADY_HELD},
+         "K": {DONE, BAD_ORDER, ALREADY_HELD, NOT_HELD}, "F": {DONE, NOT_HELD},
+         "D": {DONE, BAD_ORDER, NOT_HELD}}
+OTHERS = "?"
+EMPTY, OVERLONG, EMPTY_FIELD, OTHER = (
+    "an empty line", "an overlong line", "an empty field", "another line that is none")
+LONGEST = "a line of 512 bytes"
+# Replies that are given only at a limit of the desk's tables and outputs.
+LIMIT_REPLIES = {
+    ("P", DONE, SLOTS): "the last slot",
+    ("W", DONE, SHEET_BYTES): "a sheet of 8,192 bytes",
+    ("W", NO_ROOM, SHEET_BYTES + 1): "a sheet one byte too long",
+    ("s", DONE, NODES): "as many kits as nodes",
+    ("K", NO_ROOM, 1): "one node too few",
+}
+IN_PIECES, TALKED, NO_LINE_FEED = "lines in pieces", "a conversation", "no last line feed"
+INPUT = "input"
+
+
+def desk_reached():
+    """What scripts come to, fixed ones and those by chance."""
+    return Reached(
+        answers(DESK_NUMBERS) | answers(OFTEN, BY_CHANCE)
+        | {(letter, what) for (letter, _, _), what in LIMIT_REPLIES.items()}
+        | {(OTHERS, reason) for reason in (EMPTY, OVERLONG, EMPTY_FIELD, OTHER)}
+        | {(BY_CHANCE % OTHERS, reason) for reason in (EMPTY_FIELD, OTHER)}
+        | {(INPUT, what) for what in (LONGEST, IN_PIECES, TALKED, NO_LINE_FEED)},
+        may=answers(DESK_NUMBERS, BY_CHANCE))
+
+
+def reason_for_other(line):
+    """Why a line is answered by `?`."""
+    if line == b"":
+        return EMPTY
+    if len(line) > LONGEST_LINE:
+        return OVERLONG
+    return EMPTY_FIELD if b"" in line.split(SPACE) else OTHER
+
+
+def note_reply(reached, line, reply, who="%s"):
+    """Counts one line and its right reply."""
+    if reply == OTHER_LINE:
+        reached.note(who % OTHERS, reason_for_other(line))
+        return
+    letter, number, value = reply.decode("ascii").split(" ")[:3]
+    reached.note(who % letter, ANSWER % int(number))
+    limit = LIMIT_REPLIES.get((letter, int(number), int(value)))
+    if limit:
+        reached.note(letter, limit)
+    if len(line) == LONGEST_LINE:
+        reached.note(INPUT, LONGEST)

@@ -1,0 +1,279 @@
+"""Requests that try the register's calls: fixed ones at every limit, and ones by chance."""
+
+from run.frame import ROOM
+from second.lent import Request
+from second.register import (
+    LONGEST_NUMBER, MOST_SLOTS, NUMBER_BYTES, SLOT_BYTES, filled, numbers_of, right_length,
+    slot_for, sound)
+
+# Numbers that an integer, a trimming or a short comparison would take for each other.
+ALIKE = [
+    b"00741", b"0741", b"741", b"7410", b"74", b"7", b"0", b"00", b"A", b"AA", b"A-", b"-A",
+    b"A.", b"A/", b".", b"/", b"-", b"4016", b"LM741", b"1E3", b"0X1", b"Z" * 23, b"Z" * 24,
+    b"Z" * 23 + b"A", b"A" + b"Z" * 23,
+]
+
+# Bytes at the edges of the allowed stretches, and a few that readers often treat apart.
+EDGE_BYTES = [0, 1, 9, 10, 13, 31, 32, 44, 45, 46, 47, 48, 57, 58, 64, 65, 90, 91, 96, 97, 122,
+              127, 128, 173, 176, 193, 254, 255]
+
+PLACES = [0, 1, 2, 3, 4, 254, 255, 256, 257, 258, 511, 512, 2048, 32767, 32768, 65535]
+
+
+def many_numbers(count):
+    """So many good numbers, no two the same."""
+    return [b"%05d" % (7 * at) for at in range(count)]
+
+
+def limits():
+    """Every limit of the register and of a part number."""
+    yield from number_lengths()
+    yield from register_lengths()
+    yield from slots_together()
+    yield from full_registers()
+    yield from places()
+    yield from alike_numbers()
+
+
+def sweeps():
+    """Every byte value in a number and in a slot."""
+    yield from number_bytes()
+    yield from slot_contents()
+
+
+def large():
+    """Registers and numbers as large as the probe has room for."""
+    yield Request("p", R=bytes(SLOT_BYTES), I=b"7" * ROOM["I"], note="a number of 65,536 bytes")
+    yield Request("l", R=slot_for(b"7"), I=b"7" * ROOM["I"], note="a number of 65,536 bytes")
+    for letter in "pln":
+        for length in (8128, 8159, ROOM["R"]):
+            yield Request(letter, 1, R=filled([b"A"], 257)[:length], I=b"A",
+                          note="register of %d bytes" % length)
+
+
+def number_lengths():
+    """Numbers of 0, 1, 24 and 25 bytes, and lengths that a byte would fold onto good ones."""
+    free = filled([b"A"], 2)
+    for length in (0, 1, 2, 23, 24, 25, 26, 31, 32, 255, 256, 257, 280, 281, 4096):
+        number = b"7" * length
+        for letter in "pl":
+            yield Request(letter, R=free, I=number, note="number of %d bytes" % length)
+        if length <= LONGEST_NUMBER and length > 0:
+            held = filled([number], 2)
+            for letter in "pl":
+                yield Request(letter, R=held, I=number, note="held, %d bytes" % length)
+            yield Request("n", 1, R=held, note="show %d bytes" % length)
+
+
+def number_bytes():
+    """Every byte value first, in the middle and last, in a number given and in a slot."""
+    free = filled([], 1)
+    for value in range(256):
+        byte = bytes([value])
+        for number in (byte + b"AB", b"A" + byte + b"B", b"AB" + byte):
+            note = "byte %d in a number" % value
+            yield Request("p", R=free, I=number, note=note)
+            yield Request("l", R=slot_for(number), I=number, note=note)
+
+
+def register_lengths():
+    """Register lengths around one slot, two slots and the most slots."""
+    numbers = [b"A", b"B"]
+    for length in (0, 1, 31, 32, 33, 63, 64, 65):
+        register = filled(numbers, 3)[:length]
+        for letter in "pln":
+            yield Request(letter, 1, R=register, I=b"A", note="register of %d bytes" % length)
+    longest = MOST_SLOTS * SLOT_BYTES
+    for length in (longest, longest + 1, longest + SLOT_BYTES):
+        register = filled(numbers, MOST_SLOTS) + bytes(length - longest)
+        for letter in "pln":
+            number = b"C" if letter == "p" else b"B"
+            yield Request(letter, 2, R=register, I=number, note="register of %d bytes" % length)
+    # 1 comes before 3, 11 and 2.
+    yield Request("p", R=bytes(31), I=b"", note="wrong length and bad number")
+    yield Request("l", R=b"\x07" * 33, I=b"a", note="wrong length, unsound, bad number")
+
+
+def slot_contents():
+    """Each length byte, with good bytes in the whole slot or as many, and stray bytes."""
+    for length in range(256):
+        slot = bytes([length]) + b"7" * (SLOT_BYTES - 1)
+        yield Request("n", 1, R=slot, note="length byte %d" % length)
+    for length in range(SLOT_BYTES):
+        slot = bytes([length]) + b"7" * length + bytes(SLOT_BYTES - 1 - length)
+        yield Request("n", 1, R=slot, note="length byte %d, as many bytes" % length)
+    for position in range(SLOT_BYTES):
+        for value in (1, 55, 255):
+            slot = bytearray(slot_for(b"741"))
+            slot[position] = value
+            yield Request("l", R=slot, I=b"741", note="byte %d of a used slot" % position)
+            slot = bytearray(SLOT_BYTES)
+            slot[position] = value
+            yield Request("p", R=slot_for(b"741") + slot, I=b"4016",
+                          note="byte %d of an unused slot" % position)
+    for number in (b"", b"a", b"741", b"7" * 25):
+        for letter in "pl":
+            yield Request(letter, R=b"\x03741" + bytes(27) + b"1", I=number,
+                          note="not sound comes before a bad number")
+
+
+def slots_together():
+    """Gaps between slots, and a number that stands twice."""
+    a, b, c, none = slot_for(b"A"), slot_for(b"B"), slot_for(b"C"), bytes(SLOT_BYTES)
+    rows = {
+        "a gap at the start": none + a,
+        "a gap in the middle": a + none + b,
+        "two gaps": a + none + b + none + c,
+        "a long gap": a + none + none + none + b,
+        "twice, side by side": a + a,
+        "twice, apart": a + b + a,
+        "twice at the end": b + c + a + a,
+        "twice with room behind": a + b + b + none,
+        "sound": a + b + c + none,
+        "empty": none + none,
+    }
+    for note, register in rows.items():
+        for letter in "pl":
+            for number in (b"A", b"D"):
+                yield Request(letter, R=register, I=number, note=note)
+        for place in (0, 1, 2):
+            yield Request("n", place, R=register, note=note)
+    many = filled(many_numbers(MOST_SLOTS - 1), MOST_SLOTS)
+    yield Request("l", R=many[:-SLOT_BYTES] + many[:SLOT_BYTES], I=b"00007",
+                  note="first and last slot hold one number")
+
+
+def full_registers():
+    """The last free slot, and a full register with a new number (12) and a held one (9)."""
+    for slots in (1, 3, MOST_SLOTS):
+        numbers = many_numbers(slots)
+        full = filled(numbers, slots)
+        yield Request("p", R=full, I=b"NEW", note="full register, new number")
+        yield Request("p", R=full, I=numbers[-1], note="full register, held number")
+        yield Request("l", R=full, I=numbers[-1], note="the last number")
+        yield Request("n", slots, R=full, note="the last place")
+        yield Request("n", slots + 1, R=full, note="past the last place")
+        yield Request("p", R=filled(numbers[:-1], slots), I=b"NEW", note="the last free slot")
+    yield Request("p", R=filled(many_numbers(3), 3), I=b"new", note="full register, bad number")
+
+
+def places():
+    """Places 0, the last, one past it, 65,535, and ones that a byte would fold."""
+    register = filled([b"00741", b"0741", b"741"], 5)
+    for place in PLACES:
+        yield Request("n", place, R=register, O=b"before", note="show place %d" % place)
+        yield Request("n", place, R=bytes(SLOT_BYTES), O=b"before", note="show in an empty one")
+    yield Request("n", 0, R=bytes(31), O=b"before", note="wrong length, place 0")
+    yield Request("n", 0, R=b"\x01" * 32, O=b"before", note="not sound, place 0")
+
+
+def alike_numbers():
+    """00741, 0741 and 741 are three parts, and a number that begins another is its own."""
+    for first in range(3):
+        register = filled(ALIKE[first:first + 2], 3)
+        for number in ALIKE[:6]:
+            for letter in "pl":
+                yield Request(letter, R=register, I=number, note="numbers that look alike")
+    register = filled(ALIKE, len(ALIKE) + 1)
+    for number in ALIKE + [b"A" * 23, b"A" * 24, b"Z" * 22, b"741 ", b" 741", b"741\0", b"a"]:
+        yield Request("l", R=register, I=number, note="numbers that look alike")
+    yield Request("p", R=register, I=b"741A", note="numbers that look alike")
+
+
+def some_good_number(chance):
+    """A good number, often one that looks like another."""
+    if chance.one_in(2):
+        return chance.pick(ALIKE)
+    length = chance.pick((1, 2, 3, 5, 8, 23, 24, chance.between(1, LONGEST_NUMBER)))
+    return bytes(chance.pick(NUMBER_BYTES) for _ in range(length))
+
+
+def some_register(chance, used=None):
+    """A sound register, often small, often full or nearly so."""
+    slots = chance.pick((1, 2, 3, 4, 4, 5, 6, 8, chance.between(1, 40)))
+    if chance.one_in(60):
+        slots = chance.pick((MOST_SLOTS, MOST_SLOTS - 1, chance.between(41, MOST_SLOTS)))
+    if used is None:
+        used = chance.pick((slots, slots, slots - 1, chance.between(0, slots)))
+    numbers = []
+    while len(numbers) < min(used, slots):
+        number = some_good_number(chance)
+        if number not in numbers:
+            numbers.append(number)
+    return filled(numbers, slots)
+
+
+def damaged_register(chance, register):
+    """The register with one thing changed, which may leave it sound."""
+    changed = bytearray(register)
+    slots = len(changed) // SLOT_BYTES
+    start = SLOT_BYTES * chance.below(slots)
+    other = SLOT_BYTES * chance.below(slots)
+    way = chance.below(8)
+    if way == 0:
+        changed[chance.below(len(changed))] = chance.pick((0, chance.pick(EDGE_BYTES)))
+    elif way == 1:
+        length = changed[start]
+        changed[start] = chance.pick((0, 1, (length + 1) % 256, (length - 1) % 256, 24, 25, 255))
+    elif way == 2:
+        held = changed[start:start + SLOT_BYTES]
+        changed[start:start + SLOT_BYTES] = changed[other:other + SLOT_BYTES]
+        changed[other:other + SLOT_BYTES] = held
+    elif way == 3:
+        changed[start:start + SLOT_BYTES] = changed[other:other + SLOT_BYTES]
+    elif way == 4:
+        changed[start:start + SLOT_BYTES] = bytes(SLOT_BYTES)
+    elif way == 5:
+        changed[start + chance.between(1, SLOT_BYTES - 1)] = chance.pick(EDGE_BYTES)
+    elif way == 6:
+        changed = changed[:chance.below(len(changed) + 1)]
+    else:
+        changed += bytes(chance.pick((1, 31, 32, 33)))
+    return bytes(changed)
+
+
+def some_number(chance, numbers):
+    """A number to ask for: held, nearly held, or against the rule."""
+    if numbers and chance.below(8) < 4:
+        return chance.pick(numbers)
+    number = chance.pick(numbers) if numbers and chance.one_in(2) else some_good_number(chance)
+    way = chance.below(9)
+    if way == 0:
+        number = number[1:]
+    elif way == 1:
+        number = number[:-1]
+    elif way == 2:
+        number = number + bytes([chance.pick(NUMBER_BYTES)])
+    elif way == 3:
+        number = b"0" + number
+    elif way == 4:
+        at = chance.below(len(number))
+        number = number[:at] + bytes([chance.pick(EDGE_BYTES)]) + number[at + 1:]
+    elif way == 5:
+        number = number * chance.pick((0, 2, 11, 257))
+    return number
+
+
+def some_place(chance, used):
+    """A place to ask for: held, just past the held ones, or far off."""
+    return chance.pick((1, used, used + 1, chance.between(1, used + 1), chance.between(1, used + 1),
+                        256 + used, chance.pick(PLACES)))
+
+
+class Maker:
+    """Makes requests by chance."""
+
+    def __init__(self, chance):
+        self.chance = chance
+
+    def by_chance(self, letter):
+        """A request for this call."""
+        chance = self.chance
+        register = some_register(chance)
+        numbers = numbers_of(register)
+        if chance.below(10) < 4:
+            for _ in range(chance.pick((1, 1, 1, 2))):
+                if right_length(register) and sound(register):
+                    register = damaged_register(chance, register)
+        return Request(letter, some_place(chance, len(numbers)), R=register,
+                       I=some_number(chance, numbers))

@@ -1,0 +1,373 @@
+"""Two catalogues, each begun empty and brought on by its own calls, refused ones among them.
+
+Their sheets must agree exactly when their contents do, and a sheet that is read into another
+catalogue is written again as it was.
+"""
+
+from run.door import Different
+from second.calls import MOST_SHORT
+from second.kits import MOST_UNITS, lines_of, listing_order, words_of
+from second.nodes import NODE_WORDS
+from second.refusals import DONE
+from second.register import MOST_SLOTS, SLOT_BYTES
+
+from .almost_requests import some_question
+from .carried import Catalogue, Contents, empty_catalogue, expect
+from .index_requests import QUESTION_LETTERS, some_list, some_room, some_tag
+from .reached import ALMOST_FILLED, ENDED_ALIKE, ENDED_APART
+from .register_requests import ALIKE
+from .tables import some_new_tag, some_row
+
+# The most calls that a catalogue may need from anywhere to its aim.
+LONGEST_WAY = 2000
+
+# Numbers that are against the rule.
+BAD_NUMBERS = [b"", b"a", b"A B", b"7" * 25, b"741\n", b"\0", b"A:"]
+
+
+def some_number(chance, numbers):
+    """A good number that is not among these; numbers that look alike come often."""
+    while True:
+        number = chance.pick((chance.pick(ALIKE), b"%d" % chance.below(10000),
+                              b"N/%03d-%d" % (chance.below(999), chance.below(9))))
+        if number not in numbers:
+            return number
+
+
+def some_kits(chance, parts, count):
+    """About so many kits of these parts that share beginnings, with tags."""
+    kits = {}
+    for _ in range(count):
+        row = some_row(chance, sorted(kits), parts)
+        if len(row) <= MOST_UNITS and row not in kits:
+            kits[row] = some_new_tag(chance, kits)
+    return kits
+
+
+def some_contents(chance):
+    """A part list and kits; now and then many of both."""
+    most_parts, most_kits = (60, 40) if chance.one_in(12) else (7, 12)
+    numbers = []
+    for _ in range(chance.between(0, most_parts)):
+        numbers.append(some_number(chance, numbers))
+    return Contents(numbers, some_kits(chance, len(numbers), chance.between(0, most_kits)))
+
+
+def one_thing_changed(chance, contents):
+    """The contents with one thing changed: a tag, a kit, two parts' order, a number, a part."""
+    changes = [with_part_more]
+    if contents.numbers:
+        changes += [with_number_changed, with_kit_more]
+    if len(contents.numbers) > 1:
+        changes += [with_parts_swapped, with_parts_swapped_in_kits]
+    if contents.kits:
+        changes += [with_tag_changed, with_kit_less, with_kit_changed]
+    if len(contents.kits) > 1:
+        changes += [with_tags_swapped]
+    while True:
+        changed = Contents(contents.numbers, contents.kits)
+        chance.pick(changes)(chance, changed)
+        if changed != contents:
+            return changed
+
+
+def with_part_more(chance, contents):
+    """One part more, behind the others."""
+    contents.numbers.append(some_number(chance, contents.numbers))
+
+
+def with_number_changed(chance, contents):
+    """One part under another number."""
+    at = chance.below(len(contents.numbers))
+    contents.numbers[at] = some_number(chance, contents.numbers)
+
+
+def with_parts_swapped(chance, contents):
+    """Two parts in each other's place; the kits keep their places, and so mean other parts."""
+    at = chance.below(len(contents.numbers) - 1)
+    numbers = contents.numbers
+    numbers[at], numbers[at + 1] = numbers[at + 1], numbers[at]
+
+
+def with_parts_swapped_in_kits(chance, contents):
+    """Two parts in each other's place, and the kits of the same part numbers as before."""
+    at = chance.below(len(contents.numbers) - 1)
+    numbers = contents.numbers
+    numbers[at], numbers[at + 1] = numbers[at + 1], numbers[at]
+    moved = {at + 1: at + 2, at + 2: at + 1}
+    contents.kits = {tuple(sorted(moved.get(place, place) for place in row)): tag
+                     for row, tag in contents.kits.items()}
+
+
+def with_kit_more(chance, contents):
+    """One kit more, near the others where that is new."""
+    row = some_row(chance, sorted(contents.kits), len(contents.numbers))
+    if len(row) <= MOST_UNITS:
+        contents.kits.setdefault(row, some_new_tag(chance, contents.kits))
+
+
+def with_kit_less(chance, contents):
+    """One kit less."""
+    del contents.kits[chance.pick(sorted(contents.kits))]
+
+
+def with_kit_changed(chance, contents):
+    """One tag on another kit."""
+    tag = contents.kits.pop(chance.pick(sorted(contents.kits)))
+    row = some_row(chance, sorted(contents.kits), len(contents.numbers))
+    if len(row) <= MOST_UNITS:
+        contents.kits.setdefault(row, tag)
+
+
+def with_tag_changed(chance, contents):
+    """One kit under another tag."""
+    contents.kits[chance.pick(sorted(contents.kits))] = some_new_tag(chance, contents.kits)
+
+
+def with_tags_swapped(chance, contents):
+    """Two kits under each other's tag."""
+    rows = sorted(contents.kits)
+    one, other = chance.pick(rows), chance.pick(rows)
+    kits = contents.kits
+    kits[one], kits[other] = kits[other], kits[one]
+
+
+def on_parts(row, parts):
+    """Whether all places of a row are among so many parts; the last one is the greatest."""
+    return all(place <= parts for place in row[-1:])
+
+
+class Walk:
+    """The calls that bring a catalogue to its aim, by detours and with refused ones among them.
+
+    Registered parts stay until all is emptied or replaced. So on the way the part list is always
+    a beginning of the aim's; kits come and go.
+    """
+
+    def __init__(self, catalogue, aim):
+        self.catalogue = catalogue
+        self.chance = catalogue.door.chance
+        self.aim = aim
+
+    def contents(self):
+        """What is held, by calls and replies."""
+        return self.catalogue.contents
+
+    def parts(self):
+        """How many parts are registered, by calls and replies."""
+        return len(self.contents().numbers)
+
+    def stray(self):
+        """A call of any letter that does not lead away from the aim's part list."""
+        letter = self.chance.pick(STRAY_LETTERS)
+        WAYS[letter](self, letter)
+
+    def empty(self, letter):
+        """Empty both tables."""
+        self.catalogue.call(letter)
+
+    def register(self, letter):
+        """The aim's next part; or a number that is held, bad, or finds no free slot."""
+        held = self.contents().numbers
+        tries = held + [self.chance.pick(BAD_NUMBERS)] + self.aim.numbers[self.parts():][:1] * 4
+        if self.parts() == self.catalogue.slots():
+            tries.append(some_number(self.chance, held))
+        self.catalogue.call(letter, I=self.chance.pick(tries))
+
+    def look_up(self, letter):
+        """A number that is held or not, or bad."""
+        numbers = self.aim.numbers + self.contents().numbers + [self.chance.pick(ALIKE)]
+        self.catalogue.call(letter, I=self.chance.pick(numbers + [self.chance.pick(BAD_NUMBERS)]))
+
+    def show(self, letter):
+        """A place that is registered, 0, or beyond."""
+        self.catalogue.call(letter, self.chance.below(self.parts() + 3), O=b"old bytes")
+
+    def insert(self, letter):
+        """A kit of the aim, with its tag or another; or any kit; or a list at fault."""
+        kits = self.contents().kits
+        tag = some_tag(self.chance, kits)
+        listed = some_list(self.chance, kits, self.parts())
+        if self.aim.kits and self.chance.one_in(2):
+            row, right_tag = self.chance.pick(sorted(self.aim.kits.items()))
+            listed = words_of(lines_of(row))
+            tag = self.chance.pick((right_tag, right_tag, right_tag, tag))
+        self.catalogue.call(letter, tag, L=listed)
+
+    def take_list(self, letter):
+        """A held kit's list, one near it, or one at fault: found or struck out."""
+        self.catalogue.call(letter, L=self.some_list())
+
+    def question(self, letter):
+        """A bin or list, and an output of about the room that is needed."""
+        room = some_room(self.chance, self.contents().kits) if letter in "WC" else 0
+        self.catalogue.call(letter, L=self.some_list(), P=self.chance.some_words(room))
+
+    def almost_filled(self, letter):
+        """A bin, how much a kit may lack, and two outputs of about the room that is needed."""
+        own = self.catalogue.own
+        d, lent = some_question(self.chance, own["R"], own["N"], self.contents().kits,
+                                self.parts())
+        came = self.catalogue.call(letter, d, **lent)
+        lacking = came.blocks["Q"][:came.value] if came.done() else []
+        self.catalogue.came_to(ALMOST_FILLED, any(lacking))
+
+    def some_list(self):
+        """A list near what is held, sometimes at fault."""
+        return some_list(self.chance, self.contents().kits, self.parts())
+
+    def write(self, letter):
+        """The sheet, into an output that is full, one short, or of any size."""
+        size = len(self.contents().sheet())
+        room = self.chance.pick((0, size - 1, size, size + 3, self.chance.below(size + 9)))
+        self.catalogue.call(letter, O=self.chance.some_bytes(room))
+
+    def read(self, letter):
+        """A sheet that is at fault, or too large, or whose parts begin as the aim's."""
+        whole = self.chance.pick((self.contents(), self.sheet_on_the_way())).sheet()
+        too_many = Contents(b"%d" % at for at in range(self.catalogue.slots() + 1))
+        sheets = [whole, whole, whole[:self.chance.below(len(whole))], whole + b"\0",
+                  whole[:4] + b"\2" + whole[5:]]
+        if len(too_many.numbers) <= MOST_SLOTS:
+            sheets.append(too_many.sheet())
+        self.catalogue.call(letter, I=self.chance.pick(sheets))
+
+    def sheet_on_the_way(self):
+        """Contents whose parts begin as the aim's, with kits of the aim and others."""
+        parts = self.chance.below(len(self.aim.numbers) + 1)
+        kits = some_kits(self.chance, parts, self.chance.below(5))
+        for row, tag in self.aim.kits.items():
+            if row not in kits and tag not in kits.values() and on_parts(row, parts):
+                if self.chance.one_in(2):
+                    kits[row] = tag
+        return Contents(self.aim.numbers[:parts], kits)
+
+    def useful_calls(self):
+        """The calls that lead to the aim from here, as letter, argument and blocks."""
+        held, wanted = self.contents().kits, self.aim.kits
+        useful = [("p", 0, {"I": number}) for number in self.aim.numbers[self.parts():][:1]]
+        for row, tag in sorted(held.items()):
+            if wanted.get(row) != tag:
+                useful.append(("d", 0, {"L": words_of(lines_of(row))}))
+        for row, tag in sorted(wanted.items()):
+            if row not in held and on_parts(row, self.parts()):
+                useful.append(("k", tag, {"L": words_of(lines_of(row))}))
+        return useful
+
+    def come_home(self):
+        """Makes useful calls in any order, others among them, until the aim is reached."""
+        for _ in range(LONGEST_WAY):
+            useful = self.useful_calls()
+            if not useful:
+                break
+            letter, a, lent = self.chance.pick(useful)
+            self.catalogue.call(letter, a, **lent)
+            if self.chance.one_in(5):
+                asked = self.chance.pick(QUESTION_LETTERS)
+                WAYS[asked](self, asked)
+        if self.contents() != self.aim:
+            raise Different(["the aim was not reached: %r" % self.aim,
+                             "held: %r" % self.contents()])
+
+
+# The letters of a stray call, and how each is made.
+STRAY_LETTERS = "pppplnkkkkkkkkffdddwcWCaasrr" * 2 + "e"
+WAYS = {
+    "e": Walk.empty, "p": Walk.register, "l": Walk.look_up, "n": Walk.show, "k": Walk.insert,
+    "f": Walk.take_list, "d": Walk.take_list, "w": Walk.question, "c": Walk.question,
+    "W": Walk.question, "C": Walk.question, "a": Walk.almost_filled, "s": Walk.write,
+    "r": Walk.read,
+}
+
+
+def room_for(chance, contents):
+    """Slots and nodes for these contents: just enough, or a few more."""
+    slots = max(1, len(contents.numbers) + chance.pick((0, 0, 1, 3)))
+    return min(MOST_SLOTS, slots), contents.nodes_needed() + chance.pick((0, 0, 1, 2, 5, 20))
+
+
+def brought_to(door, size, aim):
+    """A catalogue of this size, begun empty and brought to the aim, by way of others perhaps."""
+    chance = door.chance
+    catalogue = empty_catalogue(door, *size)
+    walk = Walk(catalogue, aim)
+    for _ in range(chance.below(3)):
+        wander(Walk(catalogue, some_contents(chance)), chance.between(5, 40))
+        begin_again(walk)
+    wander(walk, chance.between(5, 60))
+    walk.come_home()
+    catalogue.check_contents()
+    list_all(catalogue)
+    return catalogue
+
+
+def list_all(catalogue):
+    """A bin of nothing and d 64 list every kit, and each lacks all its units."""
+    kits = listing_order(catalogue.contents.kits)
+    came = catalogue.call("a", MOST_SHORT, P=[0] * len(kits), Q=[0] * len(kits))
+    expect(came, DONE, len(kits), "every kit beside a bin of nothing")
+    listed = list(zip(came.blocks["P"], came.blocks["Q"]))
+    if listed != [(tag, len(row)) for row, tag in kits]:
+        raise Different(["tags and shortfalls %s beside a bin of nothing; by calls and replies" %
+                         listed, "  %r" % catalogue.contents])
+
+
+def wander(walk, calls):
+    """Makes so many stray calls."""
+    for _ in range(calls):
+        walk.stray()
+
+
+def begin_again(walk):
+    """All is replaced by what a sheet has, or emptied where that is refused or by chance."""
+    data = walk.sheet_on_the_way().sheet()
+    if walk.chance.one_in(2) or not walk.catalogue.call("r", I=data).done():
+        walk.catalogue.call("e")
+
+
+def written_sheet(catalogue):
+    """The sheet; the first call is refused and tells the bytes needed in all."""
+    needed = catalogue.call("s").value
+    came = catalogue.call("s", O=bytes(needed))
+    expect(came, DONE, needed, "a sheet with just enough room")
+    return came.blocks["O"]
+
+
+def read_again(door, contents, data):
+    """Reads a sheet into another catalogue, over anything, and writes it again."""
+    slots, node_count = room_for(door.chance, contents)
+    other = Catalogue(door, door.chance.some_bytes(1) * (slots * SLOT_BYTES),
+                      door.chance.some_words(1) * (node_count * NODE_WORDS))
+    expect(other.call("r", I=data), DONE, len(contents.kits), "a sheet that was written is read")
+    other.check_contents()
+    again = written_sheet(other)
+    if again != data:
+        raise Different(["a sheet that was read is written otherwise:",
+                         "  " + data.hex(" "), "  " + again.hex(" ")])
+    compare_sheets(contents, other.contents, data, again)
+
+
+def pair(door, alike):
+    """Two catalogues of different sizes that end alike, or apart in one thing."""
+    chance = door.chance
+    aim = some_contents(chance)
+    aims = [aim, aim if alike else one_thing_changed(chance, aim)]
+    sizes = [room_for(chance, aims[0]), room_for(chance, aims[1])]
+    while sizes[0] == sizes[1]:
+        sizes[1] = room_for(chance, aims[1])
+    one, other = [brought_to(door, *of_each) for of_each in zip(sizes, aims)]
+    sheets = [written_sheet(one), written_sheet(other)]
+    compare_sheets(one.contents, other.contents, *sheets)
+    one.came_to(ENDED_ALIKE if sheets[0] == sheets[1] else ENDED_APART)
+    for catalogue, data in zip((one, other), sheets):
+        read_again(door, catalogue.contents, data)
+
+
+def compare_sheets(contents, other_contents, data, other_data):
+    """The sheets must agree exactly when the contents do, as calls and replies tell them."""
+    if (data == other_data) != (contents == other_contents):
+        raise Different([
+            "contents %s, sheets %s:" % ("agree" if contents == other_contents else "differ",
+                                         "agree" if data == other_data else "differ"),
+            "  %r" % contents, "  " + data.hex(" "),
+            "  %r" % other_contents, "  " + other_data.hex(" ")])

@@ -1,0 +1,185 @@
+"""The ways that a call can go: the limits of documents 01 and 02, one function for each family.
+
+Each takes a request and its right answer, and gives the ways by name with whether this was one.
+"""
+
+from second import index, register
+from second.calls import MOST_SHORT
+from second.kits import MOST_QUANTITY, MOST_UNITS
+from second.nodes import MOST_NODES, NODE_WORDS
+from second.refusals import (
+    BAD_NUMBER, BAD_ORDER, BAD_QUANTITY, BEYOND_PARTS, NO_ROOM, NOT_HELD, NOT_SOUND,
+    SHEET_AT_FAULT, TAG_ZERO, TOO_FAR_SHORT, TOO_MANY_UNITS, WRONG_LENGTH)
+from second.register import LONGEST_NUMBER, SLOT_BYTES
+
+from .sheet_requests import PRINTED_SHEET
+
+# What is wrong with a list.
+LIST = {BAD_ORDER, BEYOND_PARTS, BAD_QUANTITY}
+
+# The printed sheet must be cut at every byte.
+CUT_SHORT = "the printed sheet cut short"
+
+
+def tables_lent(asked, came):
+    """Which of the two tables was refused, and whether both were good."""
+    register_bytes = asked.blocks["R"]
+    wrong, unsound = came.number == WRONG_LENGTH, came.number == NOT_SOUND
+    return {
+        "a register of wrong length": wrong and not register.right_length(register_bytes),
+        "nodes of wrong length": wrong and register.right_length(register_bytes),
+        "a register that is not sound": unsound and not register.sound(register_bytes),
+        "nodes that are not sound": unsound and register.sound(register_bytes),
+        "sound tables": not wrong and not unsound,
+    }
+
+
+def largest_lent(asked, came):
+    """Sound tables as large as they may be."""
+    return {"4,096 sound nodes": came.number not in (WRONG_LENGTH, NOT_SOUND)
+                                 and len(asked.blocks["N"]) == MOST_NODES * NODE_WORDS}
+
+
+def number_given(asked, came):
+    """Part numbers of 24 and 25 bytes."""
+    length, bad = len(asked.blocks["I"]), came.number == BAD_NUMBER
+    return {
+        "a number of 24 bytes": came.done() and length == LONGEST_NUMBER,
+        "a number of 25 bytes": bad and length == LONGEST_NUMBER + 1,
+    }
+
+
+def registered(_, came):
+    """The last free slot."""
+    return {"the last free slot": came.done() and any(came.blocks["R"][-SLOT_BYTES:])}
+
+
+def place_given(asked, came):
+    """Places that no part has."""
+    return {
+        "place 0": came.number == NOT_HELD and asked.a == 0,
+        "a place behind the last": came.number == NOT_HELD and asked.a > 0,
+    }
+
+
+def list_given(asked, came):
+    """Quantities 0, 1, 15 and 16; a list of odd length."""
+    words = asked.blocks["L"]
+    given, bad = set(words[1::2]), came.number == BAD_QUANTITY
+    good = came.number not in LIST | {WRONG_LENGTH, NOT_SOUND, TAG_ZERO}
+    return {
+        "a quantity 0": bad and 0 in given,
+        "a quantity 1": good and 1 in given,
+        "a quantity 15": good and MOST_QUANTITY in given,
+        "a quantity 16": bad and MOST_QUANTITY + 1 in given,
+        "an odd length": came.number == BAD_ORDER and len(words) % 2 == 1,
+    }
+
+
+def entered(asked, came):
+    """64 and 65 units, the last free node and one too few."""
+    units = sum(asked.blocks["L"][1::2])
+    return {
+        "a kit of 64 units": came.done() and units == MOST_UNITS,
+        "a kit of 65 units": came.number == TOO_MANY_UNITS and units == MOST_UNITS + 1,
+        "the last free node": came.done() and came.value > 0 and not index.free_count(
+            came.blocks["N"]),
+        "one node too few": came.number == NO_ROOM and came.value == 1,
+    }
+
+
+def struck_out(asked, came):
+    """Whether nodes became free."""
+    freed = came.done() and index.free_count(came.blocks["N"]) - index.free_count(
+        asked.blocks["N"])
+    return {
+        "nodes freed": came.done() and freed > 0,
+        "no node freed": came.done() and freed == 0,
+    }
+
+
+def first_found(_, came):
+    """Whether a kit answers the question."""
+    return {
+        "a kit that answers": came.done() and came.value > 0,
+        "no kit that answers": came.done() and came.value == 0,
+    }
+
+
+def output_into(name):
+    """The ways of an answer that is set down in one output."""
+    def ways(asked, came):
+        """How the output's room stands to what is needed."""
+        room, needed = len(asked.blocks[name]), came.value
+        return {
+            "an output exactly full": came.done() and needed == room > 0,
+            "an output one short": came.number == NO_ROOM and needed == room + 1,
+            "an output with room behind": came.done() and room > needed > 0,
+        }
+    return ways
+
+
+def almost_filled(asked, came):
+    """The ways of a question for the kits that a bin almost fills."""
+    d, first, second = asked.a, len(asked.blocks["P"]), len(asked.blocks["Q"])
+    done, needed = came.done(), came.value
+    no_room, too_far = came.number == NO_ROOM, came.number == TOO_FAR_SHORT
+    shortfalls = came.blocks["Q"][:needed] if done else []
+    return {
+        "an empty answer into empty outputs": done and needed == first == second == 0,
+        "several kits": done and needed > 1,
+        "a shortfall of 0": 0 in shortfalls,
+        "a shortfall of 1": 1 in shortfalls,
+        "a shortfall of 2 to 63": any(1 < lacking < MOST_SHORT for lacking in shortfalls),
+        "a shortfall of 64": MOST_SHORT in shortfalls,
+        "both outputs exactly full": done and needed and first == second == needed,
+        "both outputs longer": done and needed and min(first, second) > needed,
+        "the first output alone too short": no_room and first < needed <= second,
+        "the second output alone too short": no_room and second < needed <= first,
+        "both outputs too short": no_room and max(first, second) < needed,
+        "the first one short, the second full": no_room and first + 1 == second == needed,
+        "the second one short, the first full": no_room and second + 1 == first == needed,
+        "d 64 done": done and d == MOST_SHORT,
+        "d 65 refused": too_far and d == MOST_SHORT + 1,
+        "d 65,535 refused": too_far and d == 65535,
+        "d refused before an output is looked at": too_far and first == second == 0,
+        "a wrong length before d": came.number == WRONG_LENGTH and d > MOST_SHORT,
+        "a table that is not sound before d": came.number == NOT_SOUND and d > MOST_SHORT,
+        "a list at fault before d": came.number in LIST and d > MOST_SHORT,
+    }
+
+
+def sheet_read(asked, came):
+    """Slots and nodes just enough and one too few; the printed sheet cut short, or with more."""
+    slots = len(asked.blocks["R"]) // SLOT_BYTES
+    node_count = len(asked.blocks["N"]) // NODE_WORDS
+    no_room, at_fault = came.number == NO_ROOM, came.number == SHEET_AT_FAULT
+    return {
+        "the last free slot": came.done() and any(came.blocks["R"][-SLOT_BYTES:]),
+        "the last free node": came.done() and came.value > 0 and not index.free_count(
+            came.blocks["N"]),
+        "one slot too few": no_room and came.value == slots + 1,
+        "one node too few": no_room and came.value == node_count + 1,
+        "bytes behind the end": at_fault and asked.blocks["I"][:came.value] == PRINTED_SHEET,
+        CUT_SHORT: at_fault and PRINTED_SHEET.startswith(asked.blocks["I"]),
+    }
+
+
+# The limits of documents 01 and 02, as ways of each call; and those that take large requests too.
+LIMITS = {
+    "e": [], "p": [number_given, registered], "l": [number_given], "n": [place_given],
+    "k": [tables_lent, list_given, entered], "f": [tables_lent, list_given],
+    "d": [tables_lent, list_given, struck_out], "w": [tables_lent, list_given, first_found],
+    "c": [tables_lent, list_given, first_found], "W": [tables_lent, list_given, output_into("P")],
+    "C": [tables_lent, list_given, output_into("P")], "a": [tables_lent, list_given, almost_filled],
+    "s": [tables_lent, output_into("O")], "r": [sheet_read],
+}
+ALL_WAYS = {letter: ways + [largest_lent] if tables_lent in ways else ways
+            for letter, ways in LIMITS.items()}
+# Of these the stored run has all: with more of them it would be another one.
+STORED_WAYS = {"a": [almost_filled]}
+# Ways that requests by chance hardly ever go.
+LEFT_TO_LIMITS = {
+    "a kit of 64 units", "a kit of 65 units", "a shortfall of 64", "bytes behind the end",
+    "d 64 done", "d 65,535 refused",
+}
