@@ -1,5 +1,5 @@
 -- Inner: no promise of the house rests on what stands here; inner contracts and proofs speak by it.
--- Good rows, the answers of the check, rows of 64 places and their lines, and inclusion decided label by label.
+-- Good rows, rows of 64 places and their lines, and inclusion decided label by label.
 use mathlib.Core.Path.{_≡_}
 use mathlib.Core.Bool.{Bool, true, false, _&&_, _||_, cond}
 use mathlib.Core.List.{List, [], _∷_, _++_, map}
@@ -7,10 +7,7 @@ use Prim.Native.Nat.{ℕ, suc, _+_, _/_, _%_, _≤_, _<_, _-_}
 use lib.ListN.{length, replicate, getD, take, drop}
 use lib.Dec.{leb, ltb, eqb}
 use Rattle.ground.specs.Lists.{isZero, eqList, from, firstOr}
-use Rattle.ground.specs.Calls.{Reply, done, refused}
-use Rattle.kits.specs.Kits.{mostQuantity, mostUnits, mostPlace, lineValue, count, before, listOf}
-use Rattle.kits.specs.declared.Checked.{Checked}
-use Rattle.kits.specs.declared.Checked.the-variants.{Good, Odd, Falls, Beyond, Amount}
+use Rattle.kits.specs.Kits.{mostQuantity, mostUnits, mostPlace, count, before, listOf}
 use Rattle.kits.specs.declared.Row.{Row}
 use Rattle.kits.specs.declared.Line.{Line}
 use Rattle.kits.specs.declared.Compared.{Compared}
@@ -50,42 +47,6 @@ pub record GoodRow (n : ℕ) (r : List ℕ) : Type 0 where
   pub some-place : (i : ℕ) → i < length r → 0 < getD r i 0
   pub a-place : (i : ℕ) → i < length r → getD r i 0 ≤ n
   pub few : (p : ℕ) → count p r ≤ mostQuantity
-
-------------------------------------------------------------------------
--- The check of a list, "4 for odd length; then line by line 4, 5, 6": its answer, and the paper's number of each
-
--- the answer of one check; where it is good, that of the next
-unfoldable pub orElse : Checked → Checked → Checked
-orElse Good d = d
-orElse (Odd k) d = Odd k
-orElse (Falls k) d = Falls k
-orElse (Beyond k) d = Beyond k
-orElse (Amount k) d = Amount k
-
--- line k is `p q`, behind the place prev, with n parts registered
-unfoldable pub lineCheck : ℕ → ℕ → ℕ → ℕ → ℕ → Checked
-lineCheck n prev k p q =
-    cond (isZero p || leb p prev) (Falls k)
-    (cond (ltb n p) (Beyond k)
-    (cond (isZero q || ltb mostQuantity q) (Amount k)
-    Good))
-
-unfoldable pub linesCheck : ℕ → ℕ → ℕ → List ℕ → Checked
-linesCheck n prev k [] = Good
-linesCheck n prev k (p ∷ []) = Good
-linesCheck n prev k (p ∷ (q ∷ l)) = orElse (lineCheck n prev k p q) (linesCheck n p (suc k) l)
-
--- an odd list is charged to the line that lacks its quantity
-unfoldable pub checkOf : ℕ → List ℕ → Checked
-checkOf n l = cond (eqb (length l % 2) 1) (Odd (length l / 2 + 1)) (linesCheck n 0 1 l)
-
--- the paper's number and value of each answer
-unfoldable pub checkReply : Checked → Reply
-checkReply Good = done 0
-checkReply (Odd k) = refused 4 (lineValue k)
-checkReply (Falls k) = refused 4 (lineValue k)
-checkReply (Beyond k) = refused 5 (lineValue k)
-checkReply (Amount k) = refused 6 (lineValue k)
 
 ------------------------------------------------------------------------
 -- A kit "held once a checked list as a fixed row of 64 places with its length": rows, their order, and their lines

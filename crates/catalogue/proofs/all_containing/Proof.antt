@@ -1,3 +1,4 @@
+-- As `all_within`: with the checks passed, the promise of the listing is that of the call.
 use Rattle.lent.proofs.Lent.{lent-passed, lent-sound, lent-good}
 use Rattle.catalogue.proofs.Answers.{all-refused, all-done}
 use Rattle.questions.specs.Questions.{isContaining}

@@ -1,3 +1,4 @@
+-- Tables and bin that pass are sound and good; so the listing's promise, put behind refusals that are not given.
 use Rattle.lent.proofs.Lent.{lent-passed, lent-sound, lent-good}
 use Rattle.catalogue.proofs.Answers.{all-refused, all-done}
 use Rattle.questions.specs.Questions.{isWithin}

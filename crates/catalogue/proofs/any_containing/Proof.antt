@@ -1,3 +1,4 @@
+-- As `any_within`, of a list: behind the checks the first tag, or 0, is the value.
 use Rattle.lent.proofs.Lent.{lent-passed, lent-sound, lent-good}
 use Rattle.catalogue.proofs.Answers.{any-refused, any-done}
 use Rattle.questions.specs.Questions.{isContaining}

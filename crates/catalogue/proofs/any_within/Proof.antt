@@ -1,3 +1,4 @@
+-- Only the checks refuse; tables and bin that pass are sound and good, and the first tag, or 0, is the value.
 use Rattle.lent.proofs.Lent.{lent-passed, lent-sound, lent-good}
 use Rattle.catalogue.proofs.Answers.{any-refused, any-done}
 use Rattle.questions.specs.Questions.{isWithin}

@@ -1,3 +1,4 @@
+-- A list too long for a row is no kit held, and leaves both tables; of any other the row's promise is the call's.
 use Rattle.catalogue.proofs.Answers.{row-units, row-short, delete-refused, delete-long, delete-done}
 use Rattle.lent.proofs.Lent.{LentList, lent-passed, lent-sound}
 use Rattle.kits.specs.Kits.{mostUnits, units}

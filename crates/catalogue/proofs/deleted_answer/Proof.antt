@@ -1,3 +1,4 @@
+-- As `found_answer`: the tag keeps its value, and not held its number.
 use Rattle.index.specs.Inner.{deletedReply}
 use Rattle.ground.specs.Calls.{done}
 use mathlib.Core.Path.{sym, ap, _∙_}

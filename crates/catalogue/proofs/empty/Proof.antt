@@ -1,3 +1,4 @@
+-- Only the lengths can refuse; two tables made zero are what emptying leaves.
 use Rattle.catalogue.proofs.Answers.{empty-refused, empty-done}
 use mathlib.Core.Path.{sym, _∙_}
 use borrow.Author.Needs.{needs}

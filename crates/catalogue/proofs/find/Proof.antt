@@ -1,3 +1,4 @@
+-- No kit held is of more than 64 units, so a longer list is not held; any other is found by its row.
 use Prim.Native.Nat.{_≤_}
 use Rattle.catalogue.proofs.Answers.{row-units, row-short, find-refused, find-long, find-done}
 use Rattle.lent.proofs.Lent.{LentList, lent-passed, lent-sound}

@@ -1,3 +1,4 @@
+-- A tag made wide is the same tag; not held is 11 in both.
 use Rattle.index.specs.Inner.{foundReply}
 use Rattle.ground.specs.Calls.{done}
 use mathlib.Core.Path.{sym, ap, _∙_}

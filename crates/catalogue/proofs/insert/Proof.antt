@@ -1,3 +1,4 @@
+-- Tables, tag, lines, units, in the paper's order: past all four the row is good, and its promise is the call's.
 use Rattle.nodes.proofs.Lists.{zero-or}
 use borrow.Author.Tests.{leb-true, not-true, not-false}
 use mathlib.Core.Logic.{⊎-elim}

@@ -1,3 +1,4 @@
+-- Four cases, each with the number and the value that inserting the row gives it.
 use Rattle.index.specs.Inner.{insertedReply}
 use mathlib.Core.Path.{sym, ap}
 use borrow.Author.Needs.{needs}

@@ -1,3 +1,4 @@
+-- The tags set down, or the places needed: each count is carried over as it is.
 use Rattle.questions.specs.Inner.{listedReply}
 use mathlib.Core.Path.{sym, ap}
 use borrow.Author.Needs.{needs}

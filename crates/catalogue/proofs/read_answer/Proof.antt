@@ -1,3 +1,4 @@
+-- Kits read, the offset of a fault, or the slots or nodes needed: each is carried over under its own number.
 use Rattle.filling.specs.Inner.{readReply}
 use mathlib.Core.Path.{sym, ap}
 use borrow.Author.Needs.{needs}

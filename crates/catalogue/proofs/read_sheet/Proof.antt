@@ -1,3 +1,4 @@
+-- Lengths are all that is asked of the tables, for they are filled anew; the sheet's own refusals stand behind.
 use Rattle.catalogue.proofs.Answers.{read-refused, read-done}
 use Rattle.lent.proofs.Lent.{lengths-passed}
 use Rattle.ground.specs.Calls.{isRefused}

@@ -1,3 +1,4 @@
+-- Tables that pass are ready to be written; room alone can refuse then, behind the checks that did not.
 use Rattle.catalogue.proofs.Answers.{write-refused, write-done}
 use Rattle.lent.proofs.Lent.{both-passed, lent-sound}
 use Rattle.ground.specs.Calls.{isRefused}

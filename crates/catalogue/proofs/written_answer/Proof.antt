@@ -1,3 +1,4 @@
+-- The bytes written, or the bytes needed: each count is carried over as it is.
 use Rattle.writing.specs.Inner.{writtenReply}
 use mathlib.Core.Path.{sym, ap}
 use borrow.Author.Needs.{needs}

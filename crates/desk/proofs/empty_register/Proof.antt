@@ -1,3 +1,4 @@
+-- No slot is used and all is zero, which is sound; 255 slots are a right length.
 use Rattle.desk.proofs.Empty.{empty-ready}
 use Rattle.desk.specs.Inner.{slots}
 use native.Mathlib.Omega.{arith}

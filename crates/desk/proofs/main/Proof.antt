@@ -1,3 +1,4 @@
+-- A register of zeros is sound, nothing is kept of a line, and the output has room for every reply.
 use Rattle.desk.proofs.Serving.{keeps-none, room-enough}
 use borrow.Author.Needs.{needs}
 use Rattle.desk.proofs.main.Statement.{statement}

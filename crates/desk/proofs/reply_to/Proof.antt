@@ -1,3 +1,4 @@
+-- The reply lies inside the output; rooms keep their lengths and the register stays ready for the next line.
 use Rattle.desk.proofs.Serving.{room-kept}
 use Rattle.desk_lines.proofs.Left.{reply-inside, left-by}
 use lib.Seq.{length-take-le}

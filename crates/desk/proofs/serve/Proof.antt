@@ -1,3 +1,4 @@
+-- Of all that was read the ended lines are answered and the last is kept; turns fall, so the reading ends.
 use mathlib.Core.Path.{_≡_, refl, sym, _∙_}
 use lib.ListN.{length}
 use lib.Seq.{length-take-le}

@@ -1,3 +1,4 @@
+-- The lines that the piece has ended are answered; what is kept of the next is enough to tell an overlong one.
 use Prim.Native.Nat.{_<_}
 use lib.Seq.{length-take-le}
 use mathlib.Core.Path.{sym, _∙_}

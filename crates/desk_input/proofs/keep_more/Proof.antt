@@ -1,3 +1,4 @@
+-- More than there is room for is cut to the room, which is then full; anything less is kept whole.
 use mathlib.Core.Path.{sym}
 use Prim.Native.Nat.{_-_}
 use native.Mathlib.Omega.{arith}

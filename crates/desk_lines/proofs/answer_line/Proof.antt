@@ -1,3 +1,4 @@
+-- A good line's letter tells what stands behind it; P alone writes the register, and leaves it ready.
 use Rattle.desk_lines.proofs.Outputs.{other-outputs, register-outputs, insert-outputs, write-outputs, ask-outputs}
 use mathlib.Core.Path.{sym, _∙_}
 use native.Mathlib.Omega.{arith}

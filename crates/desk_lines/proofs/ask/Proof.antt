@@ -1,3 +1,4 @@
+-- Each letter has its call's promise; only `b` and `s` change the places, and what they set down lies inside.
 use Rattle.desk_lines.proofs.Outputs.{finds-leaves, deletes-leaves, within-leaves, containing-leaves, all-within-lists, all-containing-lists}
 use native.Mathlib.Omega.{arith}
 use Rattle.lent.specs.Lent.{tables}

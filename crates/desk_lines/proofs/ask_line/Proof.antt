@@ -1,3 +1,4 @@
+-- A lookup refused is the answer and leaves the places; otherwise the words read are the list that is asked of.
 use Rattle.desk_lines.proofs.Outputs.{ask-lists, stop-leaves}
 use mathlib.Core.Path.{sym}
 use lib.Seq.{length-take-le}

@@ -1,3 +1,4 @@
+-- A good K line is a tag and pairs, so the list can be read; a lookup refused is the answer, else the insertion.
 use mathlib.Core.Path.{sym}
 use lib.Seq.{length-take-le}
 use Rattle.lent.specs.Lent.{tables}

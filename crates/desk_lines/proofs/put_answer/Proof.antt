@@ -1,3 +1,4 @@
+-- The number and the value printed are those that the answer means in the paper.
 use Rattle.desk_replies.proofs.Replies.{put-same}
 use borrow.Author.Needs.{needs}
 use Rattle.desk_lines.proofs.put_answer.Statement.{statement}

@@ -1,3 +1,4 @@
+-- A number other than 0 is a refusal, with nothing behind; done, the value says how many places are the tags.
 use Rattle.desk_lines.proofs.Answering.{printed-refused, printed-done, done-length, done-inside}
 use Rattle.desk_replies.specs.Replies.{tagsOf}
 use native.Mathlib.Omega.{arith}

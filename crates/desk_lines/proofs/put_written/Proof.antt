@@ -1,3 +1,4 @@
+-- As `put_listed`: done, the value says how many bytes are the sheet, and they lie inside its room.
 use Rattle.desk_lines.proofs.Answering.{printed-refused, printed-done, done-length, done-inside}
 use Rattle.desk_lines.specs.Desk.{sheetText}
 use Rattle.desk_text.specs.Letters.{writes}

@@ -1,3 +1,4 @@
+-- A good P line has one field, its number, from 2 to the end; a ready register stays ready, whatever is entered.
 use Rattle.desk_lines.proofs.Answering.{ready-kept, register-put}
 use Rattle.desk_lines.proofs.Good.{number-there, number-typed}
 use Rattle.desk_replies.proofs.Replies.{put-same}

@@ -1,3 +1,4 @@
+-- What the call says that it set down lies inside the sheet's room, so just that is printed.
 use native.Mathlib.Omega.{arith}
 use Rattle.lent.specs.Lent.{tables}
 use Rattle.catalogue.specs.Calls.{writing}

@@ -1,3 +1,4 @@
+-- Two words set side by side are the pair laid there.
 use native.Mathlib.Omega.{arith}
 use lib.ListN.{length-set}
 use Rattle.desk_lists.proofs.Typing.{two-set}

@@ -1,3 +1,4 @@
+-- The list so far, before what the pairs to come type, is all; a pair takes four bytes, so 256 words are enough.
 use mathlib.Core.List.{[], _∷_}
 use mathlib.Core.Logic.{⊎-elim}
 use denote.Enum.Declared as decl

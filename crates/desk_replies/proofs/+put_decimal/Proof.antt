@@ -1,3 +1,4 @@
+-- A number of more digits is a tenth of it, which is less, and one digit behind; below 10 it is that digit.
 use mathlib.Core.Path.{_≡_, ap}
 use mathlib.Core.List.{[], _∷_, _++_}
 use Prim.Native.Nat.{_+_, _/_, _≤_}

@@ -1,3 +1,4 @@
+-- Below 10 the digits go up from 0; from 10 on the letters go up from A.
 use borrow.Author.Tests.{lt-ltb, le-ltb}
 use Rattle.desk_replies.specs.Replies.{hexDigit}
 use borrow.Author.Needs.{needs}

@@ -1,3 +1,4 @@
+-- One byte set is one byte laid, and the position behind it is the next.
 use Rattle.desk_replies.proofs.Replies.{put-one}
 use borrow.Author.Needs.{needs}
 use Rattle.desk_replies.proofs.put_byte.Statement.{statement}

@@ -1,3 +1,4 @@
+-- Five items, each behind the last; the room that the whole head has is room for what is left of it.
 use mathlib.Core.Path.{refl}
 use mathlib.Core.List.{_∷_}
 use Rattle.desk_text.specs.Lines.{space}

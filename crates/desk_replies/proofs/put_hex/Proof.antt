@@ -1,3 +1,4 @@
+-- The hex of the bytes to come, behind what is down, makes all; a byte is two digits, each below 16.
 use Rattle.desk_replies.proofs.Replies.{rest-byte, rest-byte-room}
 use mathlib.Core.Path.{refl}
 use Prim.Native.Nat.{_-_, _≤_}

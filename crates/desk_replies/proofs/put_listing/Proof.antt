@@ -1,3 +1,4 @@
+-- At most 43 bytes of head, six for each tag and a line feed: each part in turn has the room of what is left.
 use mathlib.Core.Path.{refl}
 use mathlib.Core.List.{[], _∷_}
 use native.Mathlib.Omega.{arith}

@@ -1,3 +1,4 @@
+-- Two bytes, one behind the other.
 use native.Mathlib.Omega.{arith}
 use Rattle.desk_replies.proofs.Replies.{put-put}
 use borrow.Author.Needs.{needs}

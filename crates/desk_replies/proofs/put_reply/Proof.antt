@@ -1,3 +1,4 @@
+-- Two numbers below 2^64 leave a head at most 43 bytes, so the line feed has its room behind it.
 use mathlib.Core.Path.{refl}
 use mathlib.Core.List.{[]}
 use native.Mathlib.Omega.{arith}

@@ -1,3 +1,4 @@
+-- At most 43 bytes of head, a space, two digits for each byte and a line feed: each in turn has its room.
 use mathlib.Core.Path.{refl}
 use mathlib.Core.List.{[], _∷_}
 use native.Mathlib.Omega.{arith}

@@ -1,3 +1,4 @@
+-- The text of the tags to come, behind what is down, makes all; each is a space and its digits.
 use mathlib.Core.Path.{refl, sym, ap}
 use mathlib.Core.List.{_++_}
 use Prim.Native.Nat.{ℕ, _+_, _-_, _≤_}

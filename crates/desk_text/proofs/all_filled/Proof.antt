@@ -1,3 +1,4 @@
+-- The fields passed are filled, so the rest answer for the line; an empty field ends where it starts.
 use mathlib.Core.Path.{_≡_}
 use Prim.Native.Nat.{_+_, _-_, _≤_}
 use native.Mathlib.Omega.{arith}

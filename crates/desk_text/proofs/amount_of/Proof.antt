@@ -1,3 +1,4 @@
+-- No more than 65,535, so 16 bits keep it as it is.
 use mathlib.Core.Path.{refl}
 use Rattle.desk_text.specs.Inner.{amountWhere}
 use borrow.Author.Needs.{needs}

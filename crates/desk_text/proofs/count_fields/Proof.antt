@@ -1,3 +1,4 @@
+-- Fields counted and fields to come are all; each moves on by a byte at least, so it ends.
 use mathlib.Core.Path.{_≡_}
 use Prim.Native.Nat.{_+_, _-_, _≤_}
 use native.Mathlib.Omega.{arith}

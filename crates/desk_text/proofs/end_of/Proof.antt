@@ -1,3 +1,4 @@
+-- No byte passed is b, so the stretch from here ends where the whole ends.
 use mathlib.Core.Path.{_≡_, refl}
 use Prim.Native.Nat.{_+_, _-_, _≤_}
 use native.Mathlib.Omega.{arith}

@@ -1,3 +1,4 @@
+-- P, K and W each have their own rule; any other letter must be one that takes a list, and then the pairs decide.
 use mathlib.Core.Path.{sym, _∙_}
 use borrow.Author.Tests.{not-true, not-false}
 use Rattle.desk_text.proofs.Lines.{behind-registers, behind-inserts, behind-writes, behind-other, behind-list}

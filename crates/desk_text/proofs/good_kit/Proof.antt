@@ -1,3 +1,4 @@
+-- Without a field there is no tag; behind a good tag the pairs decide.
 use mathlib.Core.Path.{sym, _∙_}
 use borrow.Author.Tests.{not-true, not-false}
 use Rattle.desk_text.proofs.Amounts.{amount-good}

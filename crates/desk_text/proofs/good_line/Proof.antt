@@ -1,3 +1,4 @@
+-- Too short, too long, an empty field; then a first field of one byte is a letter, and the rest starts at 2.
 use mathlib.Core.Path.{sym, _∙_, subst}
 use Prim.Native.Nat.{ℕ}
 use borrow.Author.Tests.{not-true, not-false}

@@ -1,3 +1,4 @@
+-- The pairs passed are good, so the rest decide; a number at the end of the line lacks its quantity.
 use mathlib.Core.Path.{_≡_, refl, sym, _∙_}
 use Prim.Native.Nat.{_+_, _-_, _≤_, _<_}
 use native.Mathlib.Omega.{arith}

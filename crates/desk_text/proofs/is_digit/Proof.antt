@@ -1,3 +1,4 @@
+-- Below the byte of 0 there is no digit; from there on the byte of 9 decides.
 use borrow.Author.Tests.{le-leb, lt-leb}
 use Rattle.desk_text.specs.Amounts.{isDigit}
 use Rattle.desk_text.proofs.is_digit.Statement.{statement}

@@ -1,3 +1,4 @@
+-- A field of one byte is all of it, even as 0; of a longer one the first byte decides.
 use borrow.Author.Tests.{eq-eqb, ne-eqb}
 use Rattle.desk_text.specs.Amounts.{leadingZero}
 use borrow.Author.Needs.{needs}

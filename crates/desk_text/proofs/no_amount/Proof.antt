@@ -1,3 +1,4 @@
+-- A field that is no amount has the value 0.
 use mathlib.Core.Path.{refl}
 use Rattle.desk_text.specs.Inner.{amountWhere}
 use Rattle.desk_text.proofs.no_amount.Statement.{statement}

@@ -1,3 +1,4 @@
+-- One to five bytes without a leading zero: what passes is an amount just when its digits are a small one.
 use mathlib.Core.Path.{sym, _∙_}
 use native.Mathlib.Omega.{arith}
 use Rattle.desk_text.specs.Amounts.{goodAmount, amountOf}

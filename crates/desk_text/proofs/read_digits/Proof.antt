@@ -1,3 +1,4 @@
+-- The bytes to come spell on from the value so far; it never falls again, so one too large refuses at once.
 use mathlib.Core.Bool.{true, false}
 use mathlib.Core.Path.{_≡_, refl, sym, _∙_}
 use Prim.Native.Nat.{_+_, _-_, _*_, _≤_, _<_}

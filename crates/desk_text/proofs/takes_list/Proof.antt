@@ -1,3 +1,4 @@
+-- The six letters in order; one that is none of the first five takes a list only as the last.
 use borrow.Author.Tests.{eq-eqb, ne-eqb}
 use mathlib.Core.Path.{sym}
 use mathlib.Core.Bool.{or-false}

@@ -1,3 +1,4 @@
+-- The kits to come, entered in the table as it is, make the whole; good, new and with room, none is refused.
 use mathlib.Core.Path.{_≡_, refl, ap, _∙_}
 use mathlib.Core.List.{List}
 use Prim.Native.Nat.{ℕ, _-_, _≤_}

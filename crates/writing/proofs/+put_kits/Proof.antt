@@ -1,3 +1,4 @@
+-- Depth plus label rises along both links: the measure. A node's own record, those below and those behind are all.
 use mathlib.Core.Path.{_≡_, ap, sym, _∙_}
 use mathlib.Core.List.{List, _++_}
 use Prim.Native.Nat.{_+_, _-_}

@@ -1,3 +1,4 @@
+-- Kits counted and kits at the nodes to come are all; no more are counted than nodes are passed.
 use mathlib.Core.Path.{_≡_, ap, sym, _∙_}
 use Prim.Native.Nat.{_+_, _-_, _≤_}
 use native.Mathlib.Omega.{arith}

@@ -1,3 +1,4 @@
+-- A length byte of at most 24 keeps the stretch inside its slot, and its bytes are the number of the slot.
 use mathlib.Core.Path.{_≡_, sym}
 use Prim.Native.Nat.{_+_, _-_, _*_}
 use native.Mathlib.Omega.{arith}

@@ -1,3 +1,4 @@
+-- The bytes counted and those of the slots to come are all; at most 25 for each slot passed bound the sum.
 use mathlib.Core.Path.{_≡_, ap}
 use Prim.Native.Nat.{_+_, _-_, _*_, _≤_}
 use native.Mathlib.Nat.{sub-zero}

@@ -1,3 +1,4 @@
+-- No tag, no record; otherwise three bytes and two for each line, of which 64 units make at most 64.
 use mathlib.Core.Path.{_≡_, ap, sym, _∙_}
 use Prim.Native.Nat.{_+_, _*_, _/_, _≤_}
 use native.Mathlib.Omega.{arith}

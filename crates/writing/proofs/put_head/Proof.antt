@@ -1,3 +1,4 @@
+-- Mark, version, part count: each in the rest of the output behind the last, which has room for all still to come.
 use mathlib.Core.Path.{refl}
 use mathlib.Core.List.{_++_}
 use Prim.Native.Nat.{_+_, _-_}

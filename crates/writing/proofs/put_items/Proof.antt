@@ -1,3 +1,4 @@
+-- The sheet is head, numbers, kit count and records; each is set down in the rest behind the last.
 use mathlib.Core.Path.{_≡_, ap}
 use mathlib.Core.List.{List, _++_}
 use Prim.Native.Nat.{ℕ, _+_, _-_}

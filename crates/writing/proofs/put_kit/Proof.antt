@@ -1,3 +1,4 @@
+-- 64 units make at most 64 lines, so the count is a byte; with it and the tag down only the lines are to come.
 use lib.ListN.{length-set}
 use Rattle.writing.proofs.Down.{down-size}
 use mathlib.Core.Path.{_≡_, sym, _∙_}

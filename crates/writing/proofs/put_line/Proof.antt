@@ -1,3 +1,4 @@
+-- A place in one byte is its rest by 256; a quantity below 256 is a byte already.
 use Prim.Native.Nat.{_%_}
 use Rattle.sheet.specs.Bytes.{inBytes}
 use Rattle.writing.proofs.Down.{down-two}

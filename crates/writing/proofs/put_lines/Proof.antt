@@ -1,3 +1,4 @@
+-- The lines to come, laid behind those down, make all; each line is at least one unit, so the row is used up.
 use lib.ListN.{length-append}
 use Rattle.sheet.proofs.Numbers.{in-length}
 use mathlib.Core.Path.{_≡_, sym, _∙_}

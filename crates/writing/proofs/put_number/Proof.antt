@@ -1,3 +1,4 @@
+-- The length, at most 24, is a byte; the number laid behind it is the item.
 use mathlib.Core.Path.{_∙_}
 use native.Mathlib.Omega.{arith}
 use lib.ListN.{length, length-set}

@@ -1,3 +1,4 @@
+-- The numbers of the slots to come, laid behind those down, make the numbers of all n.
 use mathlib.Core.Path.{_≡_}
 use mathlib.Core.List.{List, _++_}
 use Prim.Native.Nat.{ℕ, _+_, _-_, _≤_}

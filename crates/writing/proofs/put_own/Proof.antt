@@ -1,3 +1,4 @@
+-- Without a tag there is no record; a node with a tag is used, so its row can be read.
 use mathlib.Core.Path.{_≡_, sym, _∙_}
 use native.Mathlib.Omega.{arith}
 use Rattle.kits.specs.Inner.{unitsIn}

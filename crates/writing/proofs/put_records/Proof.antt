@@ -1,3 +1,4 @@
+-- The walk over the table is the root and then the chain from its first child; so are the records.
 use mathlib.Core.Path.{ap}
 use Prim.Native.Nat.{_+_, _-_}
 use native.Mathlib.Omega.{arith}

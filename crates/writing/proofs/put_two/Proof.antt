@@ -1,3 +1,4 @@
+-- Quotient and rest by 256 are the two bytes, and two bytes set are two laid.
 use Prim.Native.Nat.{_/_, _%_}
 use Rattle.sheet.specs.Bytes.{inBytes}
 use Rattle.writing.proofs.Down.{down-two}

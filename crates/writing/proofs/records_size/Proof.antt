@@ -1,3 +1,4 @@
+-- The bytes counted and those of the nodes to come are all; at most 131 for each node passed bound the sum.
 use mathlib.Core.Path.{_≡_, ap}
 use Prim.Native.Nat.{_+_, _-_, _*_, _≤_}
 use native.Mathlib.Omega.{arith}

@@ -1,3 +1,4 @@
+-- The row of the node reached, laid in front, completes the row; the place is its depth, and falls with each parent.
 use mathlib.Core.Path.{_≡_, ap, sym, _∙_, refl}
 use mathlib.Core.List.{List, [], _++_}
 use Prim.Native.Nat.{ℕ, _+_, _-_}

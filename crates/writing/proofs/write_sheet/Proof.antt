@@ -1,3 +1,4 @@
+-- Kits by node number and in listing order take as many bytes, so the need is the sheet's length; room decides.
 use mathlib.Core.Path.{_≡_, sym, _∙_, refl}
 use Prim.Native.Nat.{_+_}
 use native.Mathlib.Omega.{arith}

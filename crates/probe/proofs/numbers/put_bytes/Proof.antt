@@ -1,3 +1,4 @@
+-- The bytes keep their length, so two for each of the n words stay inside to the end.
 use mathlib.Core.Path.{_≡_}
 use Prim.Native.Nat.{_≤_, _*_, _-_, _+_}
 use native.Mathlib.Omega.{arith}

@@ -1,3 +1,4 @@
+-- Each quotient's rest by 256 is a byte, and four bytes have room from the place on.
 use native.Mathlib.Omega.{arith}
 use borrow.Author.Needs.{needs}
 use lib.ListN.{length-set}

@@ -1,3 +1,4 @@
+-- The words keep their length, so the n from the place on, and two bytes for each, stay inside to the end.
 use mathlib.Core.Path.{_≡_}
 use Prim.Native.Nat.{_≤_, _*_, _-_, _+_}
 use native.Mathlib.Omega.{arith}

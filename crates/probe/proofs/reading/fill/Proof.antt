@@ -1,3 +1,4 @@
+-- n is no more than the room, so its first n bytes can be lent to the reading.
 use native.Mathlib.Omega.{arith}
 use borrow.Author.Needs.{needs}
 use lib.ListN.{length-take}

@@ -1,3 +1,4 @@
+-- The place reached is never beyond n nor n beyond the room; it moves on each time or the reading stops.
 use mathlib.Core.Path.{_≡_}
 use Prim.Native.Nat.{_≤_, _-_}
 use borrow.Author.Needs.{needs}

@@ -1,3 +1,4 @@
+-- A count is never more than its room, so the part that is given back lies inside it.
 use native.Mathlib.Omega.{arith}
 use borrow.Author.Needs.{needs}
 use lib.ListN.{length-take}

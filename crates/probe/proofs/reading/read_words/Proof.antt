@@ -1,3 +1,4 @@
+-- As `read_bytes`: the count is bounded by the room, and so is the part given back.
 use native.Mathlib.Omega.{arith}
 use borrow.Author.Needs.{needs}
 use lib.ListN.{length-take}

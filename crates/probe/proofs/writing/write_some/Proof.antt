@@ -1,3 +1,4 @@
+-- Some words are left, so at least one goes; no more than 2,048 go at once, and the buffer has two bytes for each.
 use native.Mathlib.Omega.{arith}
 use borrow.Author.Needs.{needs}
 use lib.ListN.{length-take}

@@ -1,3 +1,4 @@
+-- The place reached is inside the words and moves on each time, so what is left falls to none.
 use Prim.Native.Nat.{_≤_, _-_}
 use borrow.Author.Needs.{needs}
 use lib.ListN.{length}

@@ -1,2 +1,0 @@
--- The program's laws.
-pub mod Laws

@@ -1,2 +1,0 @@
--- What the program's own functions are held to.
-pub mod Run
