@@ -69,18 +69,18 @@ module _ (R N : List ℕ) where
     unfolding reading
     read-refused e = promise-front (lengths (tables R N)) _ _ _ (tables R N) r 0 is e
 
-    pub read-done : (q p : Reply) (T′ : Tables) → isRefused r ≡ false → q ≡ p → Promise (filling.reading s (tables R N)) (tables R N) p T′ → Promise (reading s (tables R N)) (tables R N) q T′
+    pub read-done : (p : Reply) (T′ : Tables) → isRefused r ≡ false → Promise (filling.reading s (tables R N)) (tables R N) p T′ → Promise (reading s (tables R N)) (tables R N) p T′
     unfolding reading filling.reading
-    read-done q p T′ e same i = rw same (promise-behind (lengths (tables R N)) _ _ _ (tables R N) p T′ 0 (ap isRefused (sym is) ∙ e) i)
+    read-done p T′ e i = promise-behind (lengths (tables R N)) _ _ _ (tables R N) p T′ 0 (ap isRefused (sym is) ∙ e) i
 
   -- Writing the sheet
   pub write-refused : (o : List ℕ) (r : Reply) → r ≡ decide (lentBoth (tables R N)) 0 → isRefused r ≡ true → Promise (writing (tables R N) o) o r o
   unfolding writing setDown
   write-refused o r is e = promise-front (lentBoth (tables R N)) _ _ _ o r 0 is e
 
-  pub write-done : (o w : List ℕ) (r s q : Reply) → r ≡ decide (lentBoth (tables R N)) 0 → isRefused r ≡ false → s ≡ q → Promise (sheet.writing (contents (tables R N)) o) o q w → Promise (writing (tables R N) o) o s w
+  pub write-done : (o w : List ℕ) (r q : Reply) → r ≡ decide (lentBoth (tables R N)) 0 → isRefused r ≡ false → Promise (sheet.writing (contents (tables R N)) o) o q w → Promise (writing (tables R N) o) o q w
   unfolding writing sheet.writing
-  write-done o w r s q is e same p = rw same (set-down-behind (lentBoth (tables R N)) 0 (encode (contents (tables R N))) o (whole-passes r _ 0 0 is e) p)
+  write-done o w r q is e p = set-down-behind (lentBoth (tables R N)) 0 (encode (contents (tables R N))) o (whole-passes r _ 0 0 is e) p
 
   module _ (l : List ℕ) where
     -- "A list of more than 64 units is .. simply not held"
@@ -114,9 +114,9 @@ module _ (R N : List ℕ) where
       unfolding deleting answer
       delete-long e s h = promise-behind (lentList (tables R N) l) (missingRefusals (units l) N) _ _ (tables R N) _ _ 0 (ap isRefused (sym is) ∙ e) (promise-refused (plan (missingRefusals (units l) N) _ _) (tables R N) 11 0 (missing _ (long-not-held s h)))
 
-      pub delete-done : (us : List ℕ) (s q : Reply) (N′ : List ℕ) → isRefused r ≡ false → us ≡ units l → s ≡ q → Promise (deletingRow us N) N q N′ → Promise (deleting l (tables R N)) (tables R N) s (tables R N′)
+      pub delete-done : (us : List ℕ) (q : Reply) (N′ : List ℕ) → isRefused r ≡ false → us ≡ units l → Promise (deletingRow us N) N q N′ → Promise (deleting l (tables R N)) (tables R N) q (tables R N′)
       unfolding deleting deletingRow
-      delete-done us s q N′ e row same p = rw same (promise-behind (lentList (tables R N) l) (missingRefusals (units l) N) _ _ (tables R N) _ _ 0 (ap isRefused (sym is) ∙ e) (promise-part (tables R) (deletingRow (units l) N) N q N′ (rw row at p)))
+      delete-done us q N′ e row p = promise-behind (lentList (tables R N) l) (missingRefusals (units l) N) _ _ (tables R N) _ _ 0 (ap isRefused (sym is) ∙ e) (promise-part (tables R) (deletingRow (units l) N) N q N′ (rw row at p))
 
       -- The questions
       module _ (question : List ℕ → Kit → Bool) where
@@ -132,9 +132,9 @@ module _ (R N : List ℕ) where
         unfolding allKits setDown
         all-refused o e = promise-front (lentList (tables R N) l) _ _ _ o r 0 is e
 
-        pub all-done : (o w : List ℕ) (s q : Reply) → isRefused r ≡ false → s ≡ q → Promise (setDown [] (allOf question l N) o) o q w → Promise (allKits question l (tables R N) o) o s w
+        pub all-done : (o w : List ℕ) (q : Reply) → isRefused r ≡ false → Promise (setDown [] (allOf question l N) o) o q w → Promise (allKits question l (tables R N) o) o q w
         unfolding allKits
-        all-done o w s q e same p = rw same (set-down-behind (lentList (tables R N) l) 0 (allOf question l N) o (whole-passes r _ 0 0 is e) p)
+        all-done o w q e p = set-down-behind (lentList (tables R N) l) 0 (allOf question l N) o (whole-passes r _ 0 0 is e) p
 
       -- Kits that a bin almost fills
       module _ (d : ℕ) (o : Both) where
@@ -154,9 +154,9 @@ module _ (R N : List ℕ) where
         unfolding decide
         near-passes e h = first-passes r (lentList (tables R N) l) tooFar 0 0 is e ∙ rw (le-ltb mostShort d h)
 
-        pub almost-done : (s q : Reply) (m : Both) → isRefused r ≡ false → d ≤ mostShort → s ≡ q → Promise (listAlmost [] d l N o) o q m → Promise (almostKits d l (tables R N) o) o s m
+        pub almost-done : (q : Reply) (m : Both) → isRefused r ≡ false → d ≤ mostShort → Promise (listAlmost [] d l N o) o q m → Promise (almostKits d l (tables R N) o) o q m
         unfolding almostKits
-        almost-done s q m e h same p = rw same (set-both-behind (lentList (tables R N) l ++ tooFar) 0 (almostTags d l N) (almostShorts d l N) o (near-passes e h) p)
+        almost-done q m e h p = set-both-behind (lentList (tables R N) l ++ tooFar) 0 (almostTags d l N) (almostShorts d l N) o (near-passes e h) p
 
     -- Inserting
     module _ (t : ℕ) (r : Reply) (is : r ≡ decide (lentBoth (tables R N)) 0) where
@@ -190,6 +190,6 @@ module _ (R N : List ℕ) where
               unfolding answer
               insert-too-many h = behind-list _ _ (promise-refused (plan _ _ _) (tables R N) 7 0 (at-once (ltb mostUnits (length (units l))) 7 0 _ _ (lt-ltb mostUnits (length (units l)) (leb-false (length (units l)) mostUnits h))))
 
-              pub insert-done : (us : List ℕ) (s p : Reply) (N′ : List ℕ) → leb (length (units l)) mostUnits ≡ true → us ≡ units l → s ≡ p → Promise (insertingRow us t N) N p N′ → Promise (inserting l t (tables R N)) (tables R N) s (tables R N′)
+              pub insert-done : (us : List ℕ) (p : Reply) (N′ : List ℕ) → leb (length (units l)) mostUnits ≡ true → us ≡ units l → Promise (insertingRow us t N) N p N′ → Promise (inserting l t (tables R N)) (tables R N) p (tables R N′)
               unfolding insertingRow
-              insert-done us s p N′ h row same i = rw same (behind-list _ _ (promise-behind (given (ltb mostUnits (length (units l))) 7 0 ∷ []) _ _ _ (tables R N) p (tables R N′) 0 (alone (ltb mostUnits (length (units l))) 7 0 (le-ltb mostUnits (length (units l)) (leb-true (length (units l)) mostUnits h))) (promise-part (tables R) (insertingRow (units l) t N) N p N′ (rw row at i))))
+              insert-done us p N′ h row i = behind-list _ _ (promise-behind (given (ltb mostUnits (length (units l))) 7 0 ∷ []) _ _ _ (tables R N) p (tables R N′) 0 (alone (ltb mostUnits (length (units l))) 7 0 (le-ltb mostUnits (length (units l)) (leb-true (length (units l)) mostUnits h))) (promise-part (tables R) (insertingRow (units l) t N) N p N′ (rw row at i)))

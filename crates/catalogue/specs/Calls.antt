@@ -22,8 +22,8 @@ use Rattle.sheet.specs.Sheet.{Contents, contentsOf, encode}
 use Rattle.sheet.specs.Reading.{decode, said}
 use Rattle.sheet.specs.Calls.{sheetRefusals}
 use Rattle.filling.specs.Filling.{filling}
-use Rattle.lent.specs.declared.Answer.{Answer}
-use Rattle.lent.specs.Answers.{reply}
+use Rattle.answers.specs.declared.Answer.{Answer}
+use Rattle.answers.specs.Answers.{reply}
 use Rattle.lent.specs.Lent.{Tables, tables, partCount, lengths, lentBoth, lentList}
 
 -- what the catalogue has

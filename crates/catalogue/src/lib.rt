@@ -3,27 +3,17 @@
 ghost use mathlib.Core.Path.{_≡_};
 ghost use Rattle.ground.specs.Calls.{answer, SetsBoth};
 ghost use Rattle.questions.specs.Questions.{isWithin, isContaining};
-ghost use Rattle.questions.specs.Inner.{listedReply};
-ghost use Rattle.index.specs.Inner.{foundReply, insertedReply, deletedReply};
-ghost use Rattle.writing.specs.Inner.{writtenReply};
-ghost use Rattle.filling.specs.Inner.{readReply};
 ghost use Rattle.lent.specs.Lent.{tables};
-ghost use Rattle.lent.specs.Answers.{reply};
+ghost use Rattle.answers.specs.Answers.{reply};
 ghost use Rattle.catalogue.specs.Calls.{emptying, inserting, finding, deleting, anyKit, allKits, almostKits, writing, reading, Leaves, Sets};
-use filling::ReadSheet;
+use answers::Answer;
+use answers::refused;
 use ground::wide16;
-use index::Deleted;
-use index::Found;
-use index::Inserted;
-use lent::Answer;
 use lent::check_lengths;
 use lent::check_lent;
 use lent::check_lines;
 use lent::check_tables;
-use lent::refused;
-use questions::Listed;
 use shortfalls::MOST_SHORT;
-use writing::Written;
 
 // Empties both tables.
 pub fn empty(reg: &mut [u8], nodes: &mut [u16]) -> Answer
@@ -36,17 +26,6 @@ pub fn empty(reg: &mut [u8], nodes: &mut [u16]) -> Answer
     ground::clear(reg);
     nodes::clear_nodes(nodes);
     Answer::Done(0)
-}
-
-fn inserted_answer(i: Inserted) -> Answer
-    ensures { λ r. ⌜ reply r ≡ insertedReply i ⌝ }
-{
-    match i {
-        Inserted::Taken(k) => Answer::Done(k),
-        Inserted::Held(t) => Answer::Held(t),
-        Inserted::TagBorne => Answer::TagBorne,
-        Inserted::NoRoom(k) => Answer::NoRoom(k),
-    }
 }
 
 // Inserts a list with a tag: the nodes newly taken.
@@ -67,16 +46,7 @@ pub fn insert(reg: &[u8], nodes: &mut [u16], list: &[u16], tag: u16) -> Answer
     if !kits::has_room(list) {
         return Answer::TooMany;
     }
-    inserted_answer(index::insert(nodes, kits::row_of(list), tag))
-}
-
-fn found_answer(f: Found) -> Answer
-    ensures { λ r. ⌜ reply r ≡ foundReply f ⌝ }
-{
-    match f {
-        Found::Tag(t) => Answer::Done(wide16(t)),
-        Found::NotHeld => Answer::NotHeld,
-    }
+    index::insert(nodes, kits::row_of(list), tag)
 }
 
 // Finds a list: its tag. A list of more than 64 units is not held.
@@ -90,16 +60,7 @@ pub fn find(reg: &[u8], nodes: &[u16], list: &[u16]) -> Answer
     if !kits::has_room(list) {
         return Answer::NotHeld;
     }
-    found_answer(index::find(nodes, kits::row_of(list)))
-}
-
-fn deleted_answer(d: Deleted) -> Answer
-    ensures { λ r. ⌜ reply r ≡ deletedReply d ⌝ }
-{
-    match d {
-        Deleted::Tag(t) => Answer::Done(wide16(t)),
-        Deleted::NotHeld => Answer::NotHeld,
-    }
+    index::find(nodes, kits::row_of(list))
 }
 
 // Deletes a list: its tag.
@@ -113,7 +74,7 @@ pub fn delete(reg: &[u8], nodes: &mut [u16], list: &[u16]) -> Answer
     if !kits::has_room(list) {
         return Answer::NotHeld;
     }
-    deleted_answer(index::delete(nodes, kits::row_of(list)))
+    index::delete(nodes, kits::row_of(list))
 }
 
 // Any kit within the bin: the tag of the first in listing order, or 0.
@@ -138,15 +99,6 @@ pub fn any_containing(reg: &[u8], nodes: &[u16], list: &[u16]) -> Answer
     Answer::Done(wide16(questions::any_containing(nodes, list)))
 }
 
-fn listed_answer(l: Listed) -> Answer
-    ensures { λ r. ⌜ reply r ≡ listedReply l ⌝ }
-{
-    match l {
-        Listed::Done(n) => Answer::Done(n),
-        Listed::NoRoom(n) => Answer::NoRoom(n),
-    }
-}
-
 // All kits within the bin: their tags in listing order at the start of the output.
 pub fn all_within(reg: &[u8], nodes: &[u16], bin: &[u16], out: &mut [u16]) -> Answer
     ensures { λ r. ⌜ Sets (allKits isWithin (now (bin .entry)) (tables (now (reg .entry)) (now (nodes .entry)))) (now (out .entry)) r (now (out .exit)) ⌝ }
@@ -155,7 +107,7 @@ pub fn all_within(reg: &[u8], nodes: &[u16], bin: &[u16], out: &mut [u16]) -> An
     if refused(lent) {
         return lent;
     }
-    listed_answer(questions::all_within(nodes, bin, out))
+    questions::all_within(nodes, bin, out)
 }
 
 // All kits containing the list: their tags in listing order at the start of the output.
@@ -166,7 +118,7 @@ pub fn all_containing(reg: &[u8], nodes: &[u16], list: &[u16], out: &mut [u16]) 
     if refused(lent) {
         return lent;
     }
-    listed_answer(questions::all_containing(nodes, list, out))
+    questions::all_containing(nodes, list, out)
 }
 
 // All kits that the bin fills but for at most d units: their tags in listing order at the start of the one output, and the shortfall of each at the
@@ -188,16 +140,7 @@ pub fn all_almost(
     if MOST_SHORT < d {
         return Answer::TooFar;
     }
-    listed_answer(shortfalls::all_almost(nodes, bin, d, tags, shorts))
-}
-
-fn written_answer(w: Written) -> Answer
-    ensures { λ r. ⌜ reply r ≡ writtenReply w ⌝ }
-{
-    match w {
-        Written::Bytes(n) => Answer::Done(n),
-        Written::NoRoom(n) => Answer::NoRoom(n),
-    }
+    shortfalls::all_almost(nodes, bin, d, tags, shorts)
 }
 
 // Writes the sheet at the start of the output: the bytes written.
@@ -208,17 +151,7 @@ pub fn write_sheet(reg: &[u8], nodes: &[u16], out: &mut [u8]) -> Answer
     if refused(lent) {
         return lent;
     }
-    written_answer(writing::write_sheet(reg, nodes, out))
-}
-
-fn read_answer(r: ReadSheet) -> Answer
-    ensures { λ a. ⌜ reply a ≡ readReply r ⌝ }
-{
-    match r {
-        ReadSheet::Kits(n) => Answer::Done(n),
-        ReadSheet::AtFault(o) => Answer::Fault(o),
-        ReadSheet::NoRoom(n) => Answer::NoRoom(n),
-    }
+    writing::write_sheet(reg, nodes, out)
 }
 
 // Reads a sheet into both tables: the kits read.
@@ -229,5 +162,5 @@ pub fn read_sheet(reg: &mut [u8], nodes: &mut [u16], s: &[u8]) -> Answer
     if refused(sized) {
         return sized;
     }
-    read_answer(filling::read_sheet(reg, nodes, s))
+    filling::read_sheet(reg, nodes, s)
 }

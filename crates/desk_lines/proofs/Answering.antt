@@ -20,9 +20,9 @@ use Rattle.register.proofs.Laws.{sound-after-registering, length-after-register
 use Rattle.questions.specs.Questions.{isWithin, isContaining}
 use Rattle.lent.specs.Lent.{Tables, tables}
 use Rattle.catalogue.specs.Calls.{onRegister, inserting, finding, deleting, anyKit, allKits, writing}
-use Rattle.lent.specs.Answers.{reply}
-use Rattle.lent.specs.declared.Answer.{Answer}
-use Rattle.lent.proofs.Answers.{done-or-refused}
+use Rattle.answers.specs.Answers.{reply}
+use Rattle.answers.specs.declared.Answer.{Answer}
+use Rattle.answers.proofs.Answers.{done-or-refused}
 use Rattle.desk_text.specs.Amounts.{amountOf}
 use Rattle.desk_text.specs.Letters as letter
 use Rattle.desk_text.specs.Lines.{goodLine, fieldsOf}

@@ -7,7 +7,7 @@ ghost use lib.ListN.{length};
 ghost use Rattle.ground.specs.Calls.{numberOf, valueOf, memory};
 ghost use Rattle.register.specs.Inner.{Ready};
 ghost use Rattle.lent.specs.Lent.{tables};
-ghost use Rattle.lent.specs.Answers.{reply};
+ghost use Rattle.answers.specs.Answers.{reply};
 ghost use Rattle.catalogue.specs.Calls.{writing};
 ghost use Rattle.desk_text.specs.Lines.{goodLine};
 ghost use Rattle.desk_text.specs.Letters.{registers, inserts};

@@ -14,6 +14,7 @@ ghost use Rattle.judging.specs.Inner.{judgedOf, numberHere, nextPlace, numbersA
 ghost use Rattle.judging.specs.declared.Judged.the-variants.{Good};
 ghost use Rattle.lent.specs.Lent.{tables};
 ghost use Rattle.filling.specs.Inner.{ReadPromise, kitsRead, NumberStands, NumbersStand, KitsStand};
+use answers::Answer;
 use ground::clear;
 use ground::copy_in;
 use ground::wide8;
@@ -29,15 +30,6 @@ use nodes::node_count;
 use register::SLOT_BYTES;
 use register::count_slots;
 use sheet::Sheet;
-
-// What reading a sheet answers.
-pub enum ReadSheet {
-    Kits(usize),
-    // the offset where the first faulty item starts
-    AtFault(usize),
-    // the slots needed in all, or else the nodes
-    NoRoom(usize),
-}
 
 // Sets the number that stands at a place of the sheet, with its length, into slot k: where it ends.
 fn enter_number(reg: &mut [u8], s: &[u8], at: usize, k: usize) -> usize
@@ -89,29 +81,29 @@ pub fn fill(reg: &mut [u8], nodes: &mut [u16], s: &[u8], n: usize, m: usize)
 }
 
 // A faultless sheet: 12, or both tables filled.
-fn take_in(reg: &mut [u8], nodes: &mut [u16], s: &[u8], sheet: Sheet, need: usize) -> ReadSheet
+fn take_in(reg: &mut [u8], nodes: &mut [u16], s: &[u8], sheet: Sheet, need: usize) -> Answer
     requires { ⌜ registerLength (now reg) ≡ true ⌝ ∗ ⌜ nodesLength (now nodes) ≡ true ⌝ ∗ ⌜ Good sheet need ≡ judgedOf (decode (now s)) ⌝ }
     ensures { λ r. ⌜ ReadPromise (now (s .entry)) (tables (now (reg .entry)) (now (nodes .entry))) r (tables (now (reg .exit)) (now (nodes .exit))) ⌝ }
 {
     let parts = wide16(sheet.parts);
     if count_slots(reg) < parts {
-        return ReadSheet::NoRoom(parts);
+        return Answer::NoRoom(parts);
     }
     if node_count(nodes) < need {
-        return ReadSheet::NoRoom(need);
+        return Answer::NoRoom(need);
     }
     let kits = wide16(sheet.kits);
     fill(reg, nodes, s, parts, kits);
-    ReadSheet::Kits(kits)
+    Answer::Done(kits)
 }
 
 // Reads a sheet into tables that have right lengths: kits read.
-pub fn read_sheet(reg: &mut [u8], nodes: &mut [u16], s: &[u8]) -> ReadSheet
+pub fn read_sheet(reg: &mut [u8], nodes: &mut [u16], s: &[u8]) -> Answer
     requires { ⌜ registerLength (now reg) ≡ true ⌝ ∗ ⌜ nodesLength (now nodes) ≡ true ⌝ }
     ensures { λ r. ⌜ ReadPromise (now (s .entry)) (tables (now (reg .entry)) (now (nodes .entry))) r (tables (now (reg .exit)) (now (nodes .exit))) ⌝ }
 {
     match judge(s) {
-        Judged::Fault(o) => ReadSheet::AtFault(o),
+        Judged::Fault(o) => Answer::Fault(o),
         Judged::Good(sheet, need) => take_in(reg, nodes, s, sheet, need),
     }
 }

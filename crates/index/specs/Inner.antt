@@ -11,12 +11,6 @@ use Rattle.nodes.specs.Held.{held, tagIn}
 use Rattle.growing.specs.Enter.{enter, lacks, nodeOf}
 use Rattle.pruning.specs.Strike.{strike}
 use Rattle.index.specs.Index.{entryRefusals, missingRefusals}
-use Rattle.index.specs.declared.Found.{Found}
-use Rattle.index.specs.declared.Found.the-variants as found
-use Rattle.index.specs.declared.Inserted.{Inserted}
-use Rattle.index.specs.declared.Inserted.the-variants as inserted
-use Rattle.index.specs.declared.Deleted.{Deleted}
-use Rattle.index.specs.declared.Deleted.the-variants as deleted
 
 ------------------------------------------------------------------------
 -- How far down a table has a row
@@ -49,18 +43,3 @@ findingRow r N = plan (missingRefusals r N) (tagIn r (held N)) N
 
 unfoldable pub deletingRow : List ℕ → List ℕ → Plan (List ℕ)
 deletingRow r N = plan (missingRefusals r N) (tagIn r (held N)) (strike N r)
-
--- this paper's number and value for each case of the answers
-abbrev pub foundReply : Found → Reply
-foundReply (found.Tag t) = done t
-foundReply found.NotHeld = refused 11 0
-
-abbrev pub insertedReply : Inserted → Reply
-insertedReply (inserted.Taken k) = done k
-insertedReply (inserted.Held t) = refused 9 t
-insertedReply inserted.TagBorne = refused 10 0
-insertedReply (inserted.NoRoom k) = refused 12 k
-
-abbrev pub deletedReply : Deleted → Reply
-deletedReply (deleted.Tag t) = done t
-deletedReply deleted.NotHeld = refused 11 0

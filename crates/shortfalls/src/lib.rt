@@ -6,12 +6,14 @@ ghost use mathlib.Core.List.{[]};
 ghost use Prim.Native.Nat.{_+_, _≤_, _<_};
 ghost use lib.ListN.{length};
 ghost use Rattle.ground.specs.Calls.{SetsBoth};
+ghost use Rattle.answers.specs.Answers.{reply};
 ghost use Rattle.kits.specs.Kits.{mostPlace, goodList};
 ghost use Rattle.nodes.specs.Nodes.{mostNodes};
 ghost use Rattle.nodes.specs.Inner.{Shape, Sound};
-ghost use Rattle.questions.specs.Inner.{listedReply, foundFrom, someTag, ifTag};
+ghost use Rattle.questions.specs.Inner.{foundFrom, someTag, ifTag};
 ghost use Rattle.shortfalls.specs.Shortfalls.{mostShort, listAlmost};
 ghost use Rattle.shortfalls.specs.Inner.{leftOf, after, almost, WroteBoth, WroteFrom, WroteIn, AtLink};
+use answers::Answer;
 use ground::least;
 use kits::MOST_UNITS;
 use kits::PLACES;
@@ -21,7 +23,6 @@ use nodes::label_at;
 use nodes::next_at;
 use nodes::node_count;
 use nodes::tag_at;
-use questions::Listed;
 use questions::put_word;
 use questions::quantity;
 
@@ -135,19 +136,19 @@ pub fn all_almost(
     d: u16,
     tags: &mut [u16],
     shorts: &mut [u16],
-) -> Listed
+) -> Answer
     requires { ⌜ Sound mostPlace (now nodes) ⌝ ∗ ⌜ (goodList mostPlace (now bin) ≡ true) × (d ≤ mostShort) ⌝ }
-    ensures { λ r. ⌜ SetsBoth (listAlmost [] d (now (bin .entry)) (now (nodes .entry))) (now (tags .entry)) (now (shorts .entry)) (listedReply r) (now (tags .exit)) (now (shorts .exit)) ⌝ }
+    ensures { λ r. ⌜ SetsBoth (listAlmost [] d (now (bin .entry)) (now (nodes .entry))) (now (tags .entry)) (now (shorts .entry)) (reply r) (now (tags .exit)) (now (shorts .exit)) ⌝ }
 {
     let amounts = quantities_of(bin);
     let room = least(tags.len(), shorts.len());
     if node_count(nodes) <= room {
-        return Listed::Done(set_almost(nodes, &amounts, d, tags, shorts));
+        return Answer::Done(set_almost(nodes, &amounts, d, tags, shorts));
     }
     let need = set_almost(nodes, &amounts, d, &mut tags[0..0], &mut shorts[0..0]);
     if room < need {
-        return Listed::NoRoom(need);
+        return Answer::NoRoom(need);
     }
     set_almost(nodes, &amounts, d, tags, shorts);
-    Listed::Done(need)
+    Answer::Done(need)
 }

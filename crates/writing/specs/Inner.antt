@@ -15,8 +15,6 @@ use Rattle.nodes.specs.Held.{Kit, kitAt, held}
 use Rattle.sheet.specs.Bytes.{two}
 use Rattle.sheet.specs.Sheet.{placeBytes, mark, version, numberItems, recordItems}
 use Rattle.sheet.specs.declared.Sheet.{Sheet}
-use Rattle.writing.specs.declared.Written.{Written}
-use Rattle.writing.specs.declared.Written.the-variants.{Bytes, NoRoom}
 
 -- bs was set down at the start of an output, and r says how many bytes that is
 pub record SetDown (before after bs : List ℕ) (r : ℕ) : Type 0 where
@@ -57,7 +55,3 @@ recordsFrom N i = recordsAt N (walk N i)
 pub record Counted (R N : List ℕ) (s : Sheet) : Type 0 where
   pub parts : s .parts ≡ length (partsOf R)
   pub kits : s .kits ≡ length (held N)
-
-abbrev pub writtenReply : Written → Reply
-writtenReply (Bytes n) = done n
-writtenReply (NoRoom n) = refused 12 n

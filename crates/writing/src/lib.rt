@@ -5,6 +5,7 @@ ghost use mathlib.Core.List.{[], _∷_, _++_};
 ghost use Prim.Native.Nat.{_+_, _*_, _<_, _≤_};
 ghost use lib.ListN.{length, getD, take};
 ghost use Rattle.ground.specs.Calls.{Promise};
+ghost use Rattle.answers.specs.Answers.{reply};
 ghost use Rattle.kits.specs.Kits.{mostUnits, mostPlace, listOf};
 ghost use Rattle.kits.specs.Inner.{unitsIn, rowOf};
 ghost use Rattle.ground.specs.Limits.{mostParts};
@@ -16,7 +17,8 @@ ghost use Rattle.nodes.specs.Inner.{walkAll, Live, Shape, Sound};
 ghost use Rattle.sheet.specs.Bytes.{two, inBytes};
 ghost use Rattle.sheet.specs.Sheet.{placeBytes, mark, version, numberItem, lineItems, recordItem, contentsOf, encode};
 ghost use Rattle.sheet.specs.Calls.{writing};
-ghost use Rattle.writing.specs.Inner.{SetDown, kitOf, nodeRow, headItems, numbersFrom, Counted, kitsAt, recordsAt, ownRecord, recordsFrom, writtenReply};
+ghost use Rattle.writing.specs.Inner.{SetDown, kitOf, nodeRow, headItems, numbersFrom, Counted, kitsAt, recordsAt, ownRecord, recordsFrom};
+use answers::Answer;
 use ground::copy_in;
 use ground::wide8;
 use ground::wide16;
@@ -33,12 +35,6 @@ use nodes::tag_at;
 use register::SLOT_BYTES;
 use register::count_parts;
 use sheet::Sheet;
-
-// What writing a sheet answers.
-pub enum Written {
-    Bytes(usize),
-    NoRoom(usize),
-}
 
 // A two-byte number, the high byte first.
 fn put_two(out: &mut [u8], x: u16) -> usize
@@ -255,15 +251,15 @@ fn put_items(out: &mut [u8], reg: &[u8], nodes: &[u16], sheet: Sheet) -> usize
 }
 
 // Writes the sheet of a sound register and node table: bytes written, or the bytes needed in all where the output has no room.
-pub fn write_sheet(reg: &[u8], nodes: &[u16], out: &mut [u8]) -> Written
+pub fn write_sheet(reg: &[u8], nodes: &[u16], out: &mut [u8]) -> Answer
     requires { ⌜ Ready (now reg) ⌝ ∗ ⌜ Sound mostPlace (now nodes) ⌝ }
-    ensures { λ r. ⌜ Promise (writing (contentsOf (now (reg .entry)) (now (nodes .entry))) (now (out .entry))) (now (out .entry)) (writtenReply r) (now (out .exit)) ⌝ }
+    ensures { λ r. ⌜ Promise (writing (contentsOf (now (reg .entry)) (now (nodes .entry))) (now (out .entry))) (now (out .entry)) (reply r) (now (out .exit)) ⌝ }
 {
     let parts = count_parts(reg);
     let need = Sheet::HEAD + numbers_size(reg, parts) + 2 + records_size(nodes);
     if out.len() < need {
-        return Written::NoRoom(need);
+        return Answer::NoRoom(need);
     }
     let sheet = Sheet::new(parts as u16, count_kits(nodes));
-    Written::Bytes(put_items(out, reg, nodes, sheet))
+    Answer::Done(put_items(out, reg, nodes, sheet))
 }

@@ -41,9 +41,6 @@ all-almost-requires c κs =
     (ap isRefused (sym (at-check-lent .check-lent .ensures)) ∙ sym (at-refused .refused .ensures) ∙ else1 .if1 .left) in
     (lent-sound _ _ (p .both), (lent-good _ _ _ p, c .before .before .if2 .left))
 
-listed-answer-requires : tie.Need-listed-answer-requires
-listed-answer-requires c κs = search needs
-
 same-length : tie.Need-same-length
 same-length c = search needs
 
@@ -60,8 +57,8 @@ returns-3 c =
     let start : tie.Start = search in
     let a = start .args in
     almost-done (a .reg .now) (a .nodes .now) (a .bin .now) _ (at-check-lent .check-lent .ensures) (a .d)
-    (both (a .tags .now) (a .shorts .now)) _ _ _
-    (sym (at-refused .refused .ensures) ∙ else1 .if1 .left) (else2 .if2 .left) (c .listed-answer .ensures)
+    (both (a .tags .now) (a .shorts .now)) _ _
+    (sym (at-refused .refused .ensures) ∙ else1 .if1 .left) (else2 .if2 .left)
     (at-all-almost .all-almost .ensures)
 
 pub all-almost-spec : {M : Type 1} → statement M
@@ -73,7 +70,6 @@ all-almost-spec =
     returns
     returns-2
     all-almost-requires
-    listed-answer-requires
     same-length
     same-length-2
     returns-3)

@@ -9,9 +9,8 @@ use Rattle.catalogue.proofs.all_containing.Statement.{statement}
 use Rattle.catalogue.proofs.all_containing.Tie as tie
 use Rattle.catalogue.proofs.all_containing.Reads as reads
 use Rattle.catalogue.proofs.all_containing.Lts as lts
-use Rattle.catalogue.proofs.listed_answer.Reads as listed-answer-reads
 use Rattle.lent.proofs.check_lent.Reads as check-lent-reads
-use Rattle.lent.proofs.refused.Reads as refused-reads
+use Rattle.answers.proofs.refused.Reads as refused-reads
 use Rattle.questions.proofs.all_containing.Reads as all-containing-reads
 
 check-lent-requires : tie.Need-check-lent-requires
@@ -35,9 +34,6 @@ all-containing-requires c κs =
     (ap isRefused (sym (at-check-lent .check-lent .ensures)) ∙ sym (c .before .before .refused .ensures)
     ∙ c .before .if1 .left) in (lent-sound _ _ (p .both), lent-good _ _ _ p)
 
-listed-answer-requires : tie.Need-listed-answer-requires
-listed-answer-requires c κs = search needs
-
 same-length : tie.Need-same-length
 same-length c = search needs
 
@@ -49,7 +45,7 @@ returns-2 c =
     let at-check-lent : tie.After-check-lent = search in
     let start : tie.Start = search in
     all-done (start .args .reg .now) (start .args .nodes .now) (start .args .list .now) _ (at-check-lent .check-lent .ensures)
-    isContaining (start .args .out .now) _ _ _ (sym (at-refused .refused .ensures) ∙ else1 .if1 .left) (c .listed-answer .ensures)
+    isContaining (start .args .out .now) _ _ (sym (at-refused .refused .ensures) ∙ else1 .if1 .left)
     (at-all-containing .all-containing .ensures)
 
 pub all-containing-spec : {M : Type 1} → statement M
@@ -60,6 +56,5 @@ all-containing-spec =
     refused-requires
     returns
     all-containing-requires
-    listed-answer-requires
     same-length
     returns-2)

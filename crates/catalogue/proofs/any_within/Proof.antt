@@ -11,7 +11,7 @@ use Rattle.catalogue.proofs.any_within.Reads as reads
 use Rattle.catalogue.proofs.any_within.Lts as lts
 use Rattle.ground.proofs.wide16.Reads as wide16-reads
 use Rattle.lent.proofs.check_lent.Reads as check-lent-reads
-use Rattle.lent.proofs.refused.Reads as refused-reads
+use Rattle.answers.proofs.refused.Reads as refused-reads
 use Rattle.questions.proofs.any_within.Reads as any-within-reads
 
 check-lent-requires : tie.Need-check-lent-requires

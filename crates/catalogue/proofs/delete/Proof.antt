@@ -12,12 +12,11 @@ use Rattle.catalogue.proofs.delete.Statement.{statement}
 use Rattle.catalogue.proofs.delete.Tie as tie
 use Rattle.catalogue.proofs.delete.Reads as reads
 use Rattle.catalogue.proofs.delete.Lts as lts
-use Rattle.catalogue.proofs.deleted_answer.Reads as deleted-answer-reads
 use Rattle.index.proofs.delete.Reads as delete-reads
 use Rattle.kits.proofs.has_room.Reads as has-room-reads
 use Rattle.kits.proofs.row_of.Reads as row-of-reads
 use Rattle.lent.proofs.check_lent.Reads as check-lent-reads
-use Rattle.lent.proofs.refused.Reads as refused-reads
+use Rattle.answers.proofs.refused.Reads as refused-reads
 
 check-lent-requires : tie.Need-check-lent-requires
 check-lent-requires c κs = search needs
@@ -75,9 +74,6 @@ delete-requires c κs =
     let start : tie.Start = search in
     (lent-sound _ _ (passed else1 .both), row-short _ (start .args .list .now) (c .row-of .ensures) (few (c .before .before)))
 
-deleted-answer-requires : tie.Need-deleted-answer-requires
-deleted-answer-requires c κs = search needs
-
 same-length-3 : tie.Need-same-length-3
 same-length-3 c = search needs
 
@@ -90,8 +86,8 @@ returns-3 c =
     let at-check-lent : tie.After-check-lent = search in
     let start : tie.Start = search in
     delete-done (start .args .reg .now) (start .args .nodes .now) (start .args .list .now) _ (at-check-lent .check-lent .ensures)
-    _ _ _ _ (sym (at-refused .refused .ensures) ∙ else1 .if1 .left)
-    (row-units _ (start .args .list .now) (at-row-of .row-of .ensures)) (c .deleted-answer .ensures) (at-delete .delete .ensures)
+    _ _ _ (sym (at-refused .refused .ensures) ∙ else1 .if1 .left)
+    (row-units _ (start .args .list .now) (at-row-of .row-of .ensures)) (at-delete .delete .ensures)
 
 pub delete-spec : {M : Type 1} → statement M
 delete-spec =
@@ -106,6 +102,5 @@ delete-spec =
     returns-2
     row-of-requires
     delete-requires
-    deleted-answer-requires
     same-length-3
     returns-3)

@@ -12,12 +12,11 @@ use Rattle.catalogue.proofs.find.Statement.{statement}
 use Rattle.catalogue.proofs.find.Tie as tie
 use Rattle.catalogue.proofs.find.Reads as reads
 use Rattle.catalogue.proofs.find.Lts as lts
-use Rattle.catalogue.proofs.found_answer.Reads as found-answer-reads
 use Rattle.index.proofs.find.Reads as find-reads
 use Rattle.kits.proofs.has_room.Reads as has-room-reads
 use Rattle.kits.proofs.row_of.Reads as row-of-reads
 use Rattle.lent.proofs.check_lent.Reads as check-lent-reads
-use Rattle.lent.proofs.refused.Reads as refused-reads
+use Rattle.answers.proofs.refused.Reads as refused-reads
 
 check-lent-requires : tie.Need-check-lent-requires
 check-lent-requires c κs = search needs
@@ -69,18 +68,15 @@ find-requires c κs =
     let start : tie.Start = search in
     (lent-sound _ _ (passed else1 .both), row-short _ (start .args .list .now) (c .row-of .ensures) (few (c .before)))
 
-found-answer-requires : tie.Need-found-answer-requires
-found-answer-requires c κs = search needs
-
 returns-3 : tie.Need-returns-3
 returns-3 c =
     let else1 : tie.Else1 = search in
     let at-refused : tie.After-refused = search in
     let at-check-lent : tie.After-check-lent = search in
     let start : tie.Start = search in
-    c .found-answer .ensures ∙ c .before .find .ensures ∙ find-done (start .args .reg .now) (start .args .nodes .now)
+    c .find .ensures ∙ find-done (start .args .reg .now) (start .args .nodes .now)
     (start .args .list .now) _ (at-check-lent .check-lent .ensures) _ (sym (at-refused .refused .ensures) ∙ else1 .if1 .left)
-    (row-units _ (start .args .list .now) (c .before .before .row-of .ensures))
+    (row-units _ (start .args .list .now) (c .before .row-of .ensures))
 
 pub find-spec : {M : Type 1} → statement M
 find-spec =
@@ -93,5 +89,4 @@ find-spec =
     returns-2
     row-of-requires
     find-requires
-    found-answer-requires
     returns-3)

@@ -16,13 +16,12 @@ use Rattle.catalogue.proofs.insert.Statement.{statement}
 use Rattle.catalogue.proofs.insert.Tie as tie
 use Rattle.catalogue.proofs.insert.Reads as reads
 use Rattle.catalogue.proofs.insert.Lts as lts
-use Rattle.catalogue.proofs.inserted_answer.Reads as inserted-answer-reads
 use Rattle.index.proofs.insert.Reads as insert-reads
 use Rattle.kits.proofs.has_room.Reads as has-room-reads
 use Rattle.kits.proofs.row_of.Reads as row-of-reads
 use Rattle.lent.proofs.check_lines.Reads as check-lines-reads
 use Rattle.lent.proofs.check_tables.Reads as check-tables-reads
-use Rattle.lent.proofs.refused.Reads as refused-reads
+use Rattle.answers.proofs.refused.Reads as refused-reads
 
 check-tables-requires : tie.Need-check-tables-requires
 check-tables-requires c κs = search needs
@@ -136,9 +135,6 @@ insert-requires c κs =
       ),
     )
 
-inserted-answer-requires : tie.Need-inserted-answer-requires
-inserted-answer-requires c κs = search needs
-
 same-length-5 : tie.Need-same-length-5
 same-length-5 c = search needs
 
@@ -158,9 +154,9 @@ returns-5 c =
     let at-check-tables : tie.After-check-tables = search in
     insert-done (start .args .reg .now) (start .args .nodes .now) (start .args .list .now) (start .args .tag) _
     (at-check-tables .check-tables .ensures) (sym (at-refused .refused .ensures) ∙ else1 .if1 .left) (else2 .if2 .left) _
-    (at-check-lines .check-lines .ensures) (sym (at-refused2 .refused2 .ensures) ∙ else3 .if3 .left) _ _ _ _
+    (at-check-lines .check-lines .ensures) (sym (at-refused2 .refused2 .ensures) ∙ else3 .if3 .left) _ _ _
     (sym (at-has-room .has-room .ensures) ∙ not-false _ (else4 .if4 .left))
-    (row-units _ (start .args .list .now) (at-row-of .row-of .ensures)) (c .inserted-answer .ensures) (at-insert .insert .ensures)
+    (row-units _ (start .args .list .now) (at-row-of .row-of .ensures)) (at-insert .insert .ensures)
 
 pub insert-spec : {M : Type 1} → statement M
 insert-spec =
@@ -181,6 +177,5 @@ insert-spec =
     returns-4
     row-of-requires
     insert-requires
-    inserted-answer-requires
     same-length-5
     returns-5)

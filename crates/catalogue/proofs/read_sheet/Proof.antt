@@ -8,10 +8,9 @@ use Rattle.catalogue.proofs.read_sheet.Statement.{statement}
 use Rattle.catalogue.proofs.read_sheet.Tie as tie
 use Rattle.catalogue.proofs.read_sheet.Reads as reads
 use Rattle.catalogue.proofs.read_sheet.Lts as lts
-use Rattle.catalogue.proofs.read_answer.Reads as read-answer-reads
 use Rattle.filling.proofs.read_sheet.Reads as read-sheet-reads
 use Rattle.lent.proofs.check_lengths.Reads as check-lengths-reads
-use Rattle.lent.proofs.refused.Reads as refused-reads
+use Rattle.answers.proofs.refused.Reads as refused-reads
 
 check-lengths-requires : tie.Need-check-lengths-requires
 check-lengths-requires c κs = search needs
@@ -40,9 +39,6 @@ read-sheet-requires c κs =
     (ap isRefused (sym (at-check-lengths .check-lengths .ensures)) ∙ sym (at-refused .refused .ensures)
     ∙ c .before .before .if1 .left) in (p .0, p .1)
 
-read-answer-requires : tie.Need-read-answer-requires
-read-answer-requires c κs = search needs
-
 same-length-3 : tie.Need-same-length-3
 same-length-3 c = search needs
 
@@ -57,7 +53,7 @@ returns-2 c =
     let at-check-lengths : tie.After-check-lengths = search in
     let start : tie.Start = search in
     read-done (start .args .reg .now) (start .args .nodes .now) (start .args .s .now) _ (at-check-lengths .check-lengths .ensures)
-    _ _ _ (sym (at-refused .refused .ensures) ∙ else1 .if1 .left) (c .read-answer .ensures) (at-read-sheet .read-sheet .ensures)
+    _ _ (sym (at-refused .refused .ensures) ∙ else1 .if1 .left) (at-read-sheet .read-sheet .ensures)
 
 pub read-sheet-spec : {M : Type 1} → statement M
 read-sheet-spec =
@@ -69,7 +65,6 @@ read-sheet-spec =
     same-length-2
     returns
     read-sheet-requires
-    read-answer-requires
     same-length-3
     same-length-4
     returns-2)

@@ -8,9 +8,8 @@ use Rattle.catalogue.proofs.write_sheet.Statement.{statement}
 use Rattle.catalogue.proofs.write_sheet.Tie as tie
 use Rattle.catalogue.proofs.write_sheet.Reads as reads
 use Rattle.catalogue.proofs.write_sheet.Lts as lts
-use Rattle.catalogue.proofs.written_answer.Reads as written-answer-reads
 use Rattle.lent.proofs.check_tables.Reads as check-tables-reads
-use Rattle.lent.proofs.refused.Reads as refused-reads
+use Rattle.answers.proofs.refused.Reads as refused-reads
 use Rattle.writing.proofs.write_sheet.Reads as write-sheet-reads
 
 check-tables-requires : tie.Need-check-tables-requires
@@ -32,9 +31,6 @@ write-sheet-requires c κs =
     (ap isRefused (sym (at-check-tables .check-tables .ensures)) ∙ sym (c .before .before .refused .ensures)
     ∙ c .before .if1 .left) in (p .ready, lent-sound _ _ p)
 
-written-answer-requires : tie.Need-written-answer-requires
-written-answer-requires c κs = search needs
-
 same-length : tie.Need-same-length
 same-length c = search needs
 
@@ -45,8 +41,8 @@ returns-2 c =
     let at-refused : tie.After-refused = search in
     let at-check-tables : tie.After-check-tables = search in
     let start : tie.Start = search in
-    write-done (start .args .reg .now) (start .args .nodes .now) (start .args .out .now) _ _ _ _
-    (at-check-tables .check-tables .ensures) (sym (at-refused .refused .ensures) ∙ else1 .if1 .left) (c .written-answer .ensures)
+    write-done (start .args .reg .now) (start .args .nodes .now) (start .args .out .now) _ _ _
+    (at-check-tables .check-tables .ensures) (sym (at-refused .refused .ensures) ∙ else1 .if1 .left)
     (at-write-sheet .write-sheet .ensures)
 
 pub write-sheet-spec : {M : Type 1} → statement M
@@ -57,6 +53,5 @@ write-sheet-spec =
     refused-requires
     returns
     write-sheet-requires
-    written-answer-requires
     same-length
     returns-2)

@@ -2,7 +2,7 @@
 use Rattle.desk_lines.proofs.Outputs.{finds-leaves, deletes-leaves, within-leaves, containing-leaves, all-within-lists, all-containing-lists}
 use native.Mathlib.Omega.{arith}
 use Rattle.lent.specs.Lent.{tables}
-use Rattle.lent.specs.Answers.{reply}
+use Rattle.answers.specs.Answers.{reply}
 use Rattle.desk_lines.proofs.Answering.{within-inside, containing-inside, asked-finds, asked-deletes, asked-within, asked-containing, asked-all-within, asked-all-containing}
 use borrow.Author.Needs.{needs}
 use Rattle.desk_lines.proofs.ask.Statement.{statement}

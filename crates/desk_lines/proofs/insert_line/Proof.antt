@@ -2,7 +2,7 @@
 use mathlib.Core.Path.{sym}
 use lib.Seq.{length-take-le}
 use Rattle.lent.specs.Lent.{tables}
-use Rattle.lent.specs.Answers.{reply}
+use Rattle.answers.specs.Answers.{reply}
 use Rattle.desk_text.specs.Lines.{fieldsFrom}
 use Prim.Native.Nat.{_+_}
 use Rattle.desk_text.proofs.Lines.{fieldAt}

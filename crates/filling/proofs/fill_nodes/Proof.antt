@@ -5,7 +5,7 @@ use Prim.Native.Nat.{ℕ, _-_, _≤_}
 use native.Mathlib.Omega.{arith}
 use lib.ListN.{length}
 use Rattle.growing.specs.Enter.{enterAll}
-use Rattle.index.specs.Inner.{insertedReply}
+use Rattle.answers.specs.Answers.{reply}
 use Rattle.filling.specs.Inner.{kitsRead}
 use Rattle.filling.proofs.Kits.{Filling, filling-start, filling-end, filling-on, record-whole, units-short, may-insert}
 use Rattle.filling.proofs.fill_nodes.Statement.{statement}
@@ -58,7 +58,7 @@ loop-again c =
     let at-loop : tie.At-loop Inv-loop μ-loop = search in (
       omega arith,
       filling-on (at-loop .loop .inv .1) (omega arith) (at-row-in .row-in .result) (at-row-in .row-in .ensures)
-          (at-two-at .two-at .result) (at-two-at .two-at .ensures) (insertedReply (at-insert .insert .result))
+          (at-two-at .two-at .result) (at-two-at .two-at .ensures) (reply (at-insert .insert .result))
           (at-insert .insert .last .0) (at-insert .insert .ensures) (c .record-end .result) (c .record-end .ensures),
       at-insert .insert .kept .0 ∙ at-loop .loop .inv .2,
     )
