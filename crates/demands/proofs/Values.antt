@@ -17,7 +17,7 @@ use Rattle.register.specs.Register.{partsOf, placeFrom, placeIn}
 use Rattle.register.specs.Calls.{lentRegister, numberRefusals, registering, lookingUp, showing}
 use Rattle.register.specs.Inner.{Ready}
 use Rattle.register.proofs.Slots.{number-short}
-use Rattle.kits.specs.Kits.{mostUnits, mostPlace, units, lineValue, linesFaults, listFaults}
+use Rattle.kits.specs.Kits.{mostUnits, mostPlace, units, lineValue, lineFaults, linesFaults, listFaults}
 use Rattle.kits.specs.Inner.{GoodRow}
 use Rattle.nodes.specs.Inner.{Sound}
 use Rattle.nodes.specs.Held.{Kit, held, tagIn, tagsOf, firstTag, beginnings, addNew, allBeginnings}
@@ -117,7 +117,7 @@ unfolding lentBoth
 both-plain T = every-append (lengths-plain T) (also refl (also refl none))
 
 lines-plain : (n prev k : ℕ) (l : List ℕ) → Every Plain (linesFaults n prev k l)
-unfolding linesFaults lineValue
+unfolding lineFaults linesFaults lineValue
 lines-plain n prev k [] = none
 lines-plain n prev k (p ∷ []) = none
 lines-plain n prev k (p ∷ (q ∷ l)) = also refl (also refl (also refl (lines-plain n p (suc k) l)))

@@ -10,8 +10,8 @@ use lib.Seq.{length-take-le}
 use borrow.Author.Tests.{eq-eqb, ne-eqb, ltb-false}
 use lib.Dec.{ltb}
 use Rattle.ground.specs.Laid.{laid}
-use Rattle.ground.specs.Calls.{Case, given, Plan, Reply, done, refused, numberOf, valueOf, decide, answer, leaves, memory, Promise, setDown}
-use Rattle.ground.proofs.Calls.{leaves-done, leaves-refused, refusal-keeps, done-passes}
+use Rattle.ground.specs.Calls.{Case, given, Plan, Reply, done, refused, numberOf, valueOf, isRefused, decide, answer, leaves, memory, Promise, setDown}
+use Rattle.ground.proofs.Calls.{passed-done, refused-says, leaves-done, leaves-refused, refusal-keeps, done-passes}
 use Rattle.ground.proofs.Laid.{length-laid}
 use Rattle.register.specs.Register.{registerLength}
 use Rattle.register.specs.Inner.{Ready}
@@ -29,11 +29,9 @@ use Rattle.desk_text.specs.Lines.{goodLine, fieldsOf}
 use Rattle.desk_replies.specs.Replies.{replyLine, otherLine, tagsOf, Put}
 use Rattle.desk_replies.proofs.Replies.{put-same}
 use Rattle.desk_lists.specs.Typed.{Typed, typed, stopped, lookedUp}
-use Rattle.desk_lists.specs.Inner.{said, wordsRead}
-use Rattle.desk_lists.specs.declared.Read.{Read}
-use Rattle.desk_lists.specs.declared.Read.the-variants as read
+use Rattle.desk_lists.specs.Inner.{said}
 use Rattle.desk_lines.specs.Desk.{Answered, typedFields, called, shown, registerLine, writeLine, withList, asked, askLine, insertLine, inserted, wellFormed, atDesk, Answers}
-use Rattle.desk_lines.specs.Inner.{setDownBy, printed, stopNumber}
+use Rattle.desk_lines.specs.Inner.{setDownBy, printed}
 
 -- a register that is ready stays so, whatever is registered
 same-length-allowed : (M R : List ℕ) → length M ≡ length R → registerLength M ≡ registerLength R
@@ -138,18 +136,20 @@ register-put l R N n a M e q h =
     (record { answers = rw (← e) (q .answers); lent = rw (← e) (ap (λ m. tables m N) (q .lent) ∙ sym (on-register (answer (registering n R)) R (registering n R .after) N)) })
     h
 
--- a list that was read, or a lookup that was refused
-module _ {old new : List ℕ} {r : ℕ} (x : ℕ) (T : Tables) (asks : List ℕ → Answered) (res : Read) (out : List ℕ) (t : Typed) (s : said res out ≡ t) where
-  pub with-typed : (n : ℕ) (U : Tables) → res ≡ read.List n → Answers (asks (take n out)) old r new U → Answers (withList x T asks t) old r new U
+-- a list that was read, n words of it, or a lookup that was refused
+module _ {old new : List ℕ} {r : ℕ} (x : ℕ) (T : Tables) (asks : List ℕ → Answered) (res : Reply) (out : List ℕ) (t : Typed) (s : said res out ≡ t) where
+  pub with-typed : (n : ℕ) (U : Tables) → n ≡ valueOf res → isRefused res ≡ false → Answers (asks (take n out)) old r new U →
+      Answers (withList x T asks t) old r new U
   unfolding withList
-  with-typed n U e h = let q : t ≡ typed (take n out) = sym s ∙ ap (λ (z : Read). said z out) e in rw q h
+  with-typed n U f e h =
+      let q : t ≡ typed (take n out) = sym s ∙ ap (λ (z : Reply). said z out) (passed-done res e) ∙ ap (λ k. typed (take k out)) (sym f) in
+      rw q h
 
-  pub with-stopped : (k n : ℕ) → res ≡ read.Refused k → n ≡ stopNumber res → Put old 0 (replyLine x n 0 []) r new → Answers (withList x T asks t) old r new T
+  pub with-stopped : isRefused res ≡ true → Put old 0 (replyLine x (numberOf res) (valueOf res) []) r new → Answers (withList x T asks t) old r new T
   unfolding withList
-  with-stopped k n e f h =
-      let q : t ≡ stopped k 0 = sym s ∙ ap (λ (z : Read). said z out) e in
-      let g : n ≡ k = f ∙ ap stopNumber e in
-      rw q (record { put = rw (← g) h; left = refl })
+  with-stopped e h =
+      let q : t ≡ stopped (numberOf res) (valueOf res) = sym s ∙ ap (λ (z : Reply). said z out) (refused-says res e) in
+      rw q (record { put = h; left = refl })
 
 -- what is asked of a list, by the letter
 module _ {old new : List ℕ} {r : ℕ} (x : ℕ) (o : List ℕ) (T : Tables) (l : List ℕ) (a : Reply) where
@@ -188,31 +188,37 @@ module _ {old new : List ℕ} {r : ℕ} (x : ℕ) (o : List ℕ) (T : Tables) (l
               (record { put = shown-put x tagsOf (allKits isContaining l T o) o a m q h; left = refl })
 
 -- a line that asks something of a list, and one that inserts
-module _ {old new : List ℕ} {r : ℕ} (l : List ℕ) (T : Tables) (res : Read) (out : List ℕ) (fs : List (List ℕ)) (s : said res out ≡ lookedUp (T .register) fs) where
+module _ {old new : List ℕ} {r : ℕ} (l : List ℕ) (T : Tables) (res : Reply) (out : List ℕ) (fs : List (List ℕ)) (s : said res out ≡ lookedUp (T .register) fs) where
   module _ (x : ℕ) (o : List ℕ) (b : typedFields l ≡ fs) where
-    pub ask-typed : (n : ℕ) (U : Tables) → res ≡ read.List n → Answers (asked x o T (take n out)) old r new U → Answers (askLine x l o T) old r new U
+    pub ask-typed : (n : ℕ) (U : Tables) → n ≡ valueOf res → isRefused res ≡ false → Answers (asked x o T (take n out)) old r new U →
+        Answers (askLine x l o T) old r new U
     unfolding askLine
-    ask-typed n U e h = with-typed x T (asked x o T) res out (lookedUp (T .register) (typedFields l)) (s ∙ ap (lookedUp (T .register)) (sym b)) n U e h
+    ask-typed n U f e h =
+        with-typed x T (asked x o T) res out (lookedUp (T .register) (typedFields l)) (s ∙ ap (lookedUp (T .register)) (sym b)) n U f e h
 
-    pub ask-stopped : (k n : ℕ) → res ≡ read.Refused k → n ≡ stopNumber res → Put old 0 (replyLine x n 0 []) r new → Answers (askLine x l o T) old r new T
+    pub ask-stopped : isRefused res ≡ true → Put old 0 (replyLine x (numberOf res) (valueOf res) []) r new → Answers (askLine x l o T) old r new T
     unfolding askLine
-    ask-stopped k n e f h = with-stopped x T (asked x o T) res out (lookedUp (T .register) (typedFields l)) (s ∙ ap (lookedUp (T .register)) (sym b)) k n e f h
+    ask-stopped e h = with-stopped x T (asked x o T) res out (lookedUp (T .register) (typedFields l)) (s ∙ ap (lookedUp (T .register)) (sym b)) e h
 
   module _ (tag : List ℕ) (b : typedFields l ≡ tag ∷ fs) where
-    pub insert-typed : (n t : ℕ) (a : Reply) (U : Tables) → res ≡ read.List n → t ≡ amountOf tag → Promise (inserting (take n out) t T) T a U → Put old 0 (replyLine letter.inserts (numberOf a) (valueOf a) []) r new → Answers (insertLine l T) old r new U
+    pub insert-typed : (n t : ℕ) (a : Reply) (U : Tables) → n ≡ valueOf res → isRefused res ≡ false → t ≡ amountOf tag →
+        Promise (inserting (take n out) t T) T a U → Put old 0 (replyLine letter.inserts (numberOf a) (valueOf a) []) r new → Answers (insertLine l T) old r new U
     unfolding insertLine inserted
-    insert-typed n t a U e f q h =
+    insert-typed n t a U g e f q h =
         let y : t ≡ amountOf (getD (typedFields l) 0 []) = f ∙ ap (λ gs. amountOf (getD gs 0 [])) (sym b) in
-        with-typed letter.inserts T (inserted T (amountOf (getD (typedFields l) 0 []))) res out (lookedUp (T .register) (drop 1 (typedFields l))) (s ∙ ap (λ gs. lookedUp (T .register) (drop 1 gs)) (sym b)) n U e
+        with-typed letter.inserts T (inserted T (amountOf (getD (typedFields l) 0 []))) res out (lookedUp (T .register) (drop 1 (typedFields l)))
+        (s ∙ ap (λ gs. lookedUp (T .register) (drop 1 gs)) (sym b)) n U g e
         (rw (← y) (called-put letter.inserts T (inserting (take n out) t T) a U q h))
 
-    pub insert-stopped : (k n : ℕ) → res ≡ read.Refused k → n ≡ stopNumber res → Put old 0 (replyLine letter.inserts n 0 []) r new → Answers (insertLine l T) old r new T
+    pub insert-stopped : isRefused res ≡ true → Put old 0 (replyLine letter.inserts (numberOf res) (valueOf res) []) r new →
+        Answers (insertLine l T) old r new T
     unfolding insertLine
-    insert-stopped k n e f h =
-        with-stopped letter.inserts T (inserted T (amountOf (getD (typedFields l) 0 []))) res out (lookedUp (T .register) (drop 1 (typedFields l))) (s ∙ ap (λ gs. lookedUp (T .register) (drop 1 gs)) (sym b)) k n e f h
+    insert-stopped e h =
+        with-stopped letter.inserts T (inserted T (amountOf (getD (typedFields l) 0 []))) res out (lookedUp (T .register) (drop 1 (typedFields l)))
+        (s ∙ ap (λ gs. lookedUp (T .register) (drop 1 gs)) (sym b)) e h
 
-pub words-inside : (res : Read) (n m : ℕ) → res ≡ read.List n → wordsRead res ≤ m → n ≤ m
-words-inside res n m e h = let q : wordsRead res ≡ n = ap wordsRead e in omega arith
+pub words-inside : (res : Reply) (n m : ℕ) → n ≡ valueOf res → isRefused res ≡ false → leaves res 0 (valueOf res) ≤ m → n ≤ m
+words-inside res n m f e h = omega (arith, leaves-done res (valueOf res) 0 (valueOf res) (passed-done res e))
 
 -- an answer whose number is 0 is done, and every other is refused
 pub zero-done : (a : Answer) → numberOf (reply a) ≡ 0 → reply a ≡ done (valueOf (reply a))

@@ -5,7 +5,8 @@ use mathlib.Core.List.{List}
 use Prim.Native.Nat.{ℕ}
 use lib.ListN.{getD, take}
 use borrow.Author.Tests.{eq-eqb, ne-eqb}
-use Rattle.ground.specs.Calls.{memory}
+use Rattle.ground.specs.Calls.{Reply, numberOf, valueOf, isRefused, memory}
+use Rattle.ground.proofs.Calls.{passed-done, refused-says}
 use Rattle.questions.specs.Questions.{isWithin, isContaining}
 use Rattle.lent.specs.Lent.{Tables}
 use Rattle.catalogue.specs.Calls.{allKits, writing}
@@ -13,8 +14,6 @@ use Rattle.desk_text.specs.Letters as letter
 use Rattle.desk_text.specs.Lines.{goodLine}
 use Rattle.desk_lists.specs.Typed.{typed, stopped, lookedUp}
 use Rattle.desk_lists.specs.Inner.{said}
-use Rattle.desk_lists.specs.declared.Read.{Read}
-use Rattle.desk_lists.specs.declared.Read.the-variants as read
 use Rattle.desk_lines.specs.Desk.{typedFields, atDesk, Answers}
 use Rattle.desk_lines.specs.Inner.{askedPlaces, typedPlaces, askPlaces, placesAfter, sheetAfter, Outputs}
 
@@ -50,17 +49,23 @@ module _ (x : ℕ) (o : List ℕ) (T : Tables) (l : List ℕ) where
               rw (ne-eqb x letter.finds n1, ne-eqb x letter.deletes n2, ne-eqb x letter.anyWithin n3, ne-eqb x letter.anyContaining n4, ne-eqb x letter.allWithin n5) f
 
 -- a list that was read, or a lookup that was refused
-module _ (x : ℕ) (l o : List ℕ) (T : Tables) (res : Read) (out : List ℕ) (fs : List (List ℕ)) (s : said res out ≡ lookedUp (T .register) fs) (b : typedFields l ≡ fs) where
+module _ (x : ℕ) (l o : List ℕ) (T : Tables) (res : Reply) (out : List ℕ) (fs : List (List ℕ)) (s : said res out ≡ lookedUp (T .register) fs) (b : typedFields l ≡ fs) where
   typed-is : said res out ≡ lookedUp (T .register) (typedFields l)
   typed-is = s ∙ ap (lookedUp (T .register)) (sym b)
 
-  pub ask-lists : (n : ℕ) (m : List ℕ) → res ≡ read.List n → m ≡ askedPlaces x o T (take n out) → m ≡ askPlaces x l o T
+  pub ask-lists : (n : ℕ) (m : List ℕ) → n ≡ valueOf res → isRefused res ≡ false → m ≡ askedPlaces x o T (take n out) → m ≡ askPlaces x l o T
   unfolding typedPlaces
-  ask-lists n m e f = let q : lookedUp (T .register) (typedFields l) ≡ typed (take n out) = sym typed-is ∙ ap (λ (z : Read). said z out) e in rw q f
+  ask-lists n m g e f =
+      let q : lookedUp (T .register) (typedFields l) ≡ typed (take n out) =
+      sym typed-is ∙ ap (λ (z : Reply). said z out) (passed-done res e) ∙ ap (λ k. typed (take k out)) (sym g) in
+      rw q f
 
-  pub stop-leaves : (k : ℕ) → res ≡ read.Refused k → o ≡ askPlaces x l o T
+  pub stop-leaves : isRefused res ≡ true → o ≡ askPlaces x l o T
   unfolding typedPlaces
-  stop-leaves k e = let q : lookedUp (T .register) (typedFields l) ≡ stopped k 0 = sym typed-is ∙ ap (λ (z : Read). said z out) e in rw q
+  stop-leaves e =
+      let q : lookedUp (T .register) (typedFields l) ≡ stopped (numberOf res) (valueOf res) =
+      sym typed-is ∙ ap (λ (z : Reply). said z out) (refused-says res e) in
+      rw q
 
 -- a line, by its letter
 module _ (l o s : List ℕ) (T : Tables) where

@@ -15,8 +15,6 @@ use Rattle.desk_text.specs.Letters as letter
 use Rattle.desk_replies.specs.Replies.{replyLine}
 use Rattle.desk_replies.specs.Inner.{headRoom, tagRoom}
 use Rattle.desk_lists.specs.Typed.{Typed, typed, stopped, lookedUp}
-use Rattle.desk_lists.specs.declared.Read.{Read}
-use Rattle.desk_lists.specs.declared.Read.the-variants as read
 use Rattle.desk_lines.specs.Desk.{typedFields}
 
 ------------------------------------------------------------------------
@@ -39,11 +37,6 @@ setDownBy a = leaves a 0 (valueOf a)
 -- the reply to an answer that has set something down in an output
 abbrev pub printed : ℕ → (List ℕ → List ℕ) → Reply → List ℕ → List ℕ
 printed x print a o = replyLine x (numberOf a) (valueOf a) (leaves a [] (print (take (valueOf a) o)))
-
--- the number of a lookup's refusal
-abbrev pub stopNumber : Read → ℕ
-stopNumber (read.List n) = 0
-stopNumber (read.Refused n) = n
 
 ------------------------------------------------------------------------
 -- What a line leaves in the outputs that are lent to it. "What lies behind the answer keeps its contents."

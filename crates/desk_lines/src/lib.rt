@@ -16,8 +16,10 @@ ghost use Rattle.desk_replies.specs.Replies.{replyLine, tagsOf, Put};
 ghost use Rattle.desk_replies.specs.Inner.{headRoom, tagRoom};
 ghost use Rattle.desk_lists.specs.Inner.{Pairs};
 ghost use Rattle.desk_lines.specs.Desk.{sheetText, registerLine, writeLine, insertLine, asked, askLine, atDesk, Answers};
-ghost use Rattle.desk_lines.specs.Inner.{Room, Begins, setDownBy, printed, stopNumber, askedPlaces, askPlaces, Outputs};
-use desk_lists::Read;
+ghost use Rattle.desk_lines.specs.Inner.{Room, Begins, setDownBy, printed, askedPlaces, askPlaces, Outputs};
+use answers::Answer;
+use answers::refused;
+use answers::reply_of;
 use desk_lists::read_list;
 use desk_replies::put_listing;
 use desk_replies::put_other;
@@ -27,10 +29,7 @@ use desk_text::end_of;
 use desk_text::good_line;
 use desk_text::read_amount;
 use ground::wide8;
-use lent::Answer;
 use register::register_in;
-use replies::answer_reply;
-use replies::registered_reply;
 
 // A pair takes four bytes of a line at least, so a line's list is no longer than this.
 const LIST_WORDS: usize = 256;
@@ -38,22 +37,12 @@ const LIST_WORDS: usize = 256;
 // Where the field behind the letter starts.
 const BEHIND_LETTER: usize = 2;
 
-// The number of the lookup that was refused.
-fn stop_number(r: Read) -> usize
-    ensures { λ n. ⌜ n ≡ stopNumber r ⌝ }
-{
-    match r {
-        Read::List(_) => 0,
-        Read::Refused(n) => wide8(n),
-    }
-}
-
 // Replies with letter, number and value.
 fn put_answer(out: &mut [u8], letter: u8, a: Answer) -> usize
     requires { ⌜ headRoom + 1 ≤ length (now out) ⌝ }
     ensures { λ r. ⌜ Put (now (out .entry)) 0 (replyLine letter (numberOf (reply a)) (valueOf (reply a)) []) r (now (out .exit)) ⌝ }
 {
-    let r = answer_reply(a);
+    let r = reply_of(a);
     let number = r.number;
     put_reply(out, letter, wide8(number), r.value)
 }
@@ -63,7 +52,7 @@ fn put_listed(out: &mut [u8], letter: u8, a: Answer, places: &[u16]) -> usize
     requires { ⌜ headRoom + tagRoom * length (now places) + 1 ≤ length (now out) ⌝ ∗ ⌜ setDownBy (reply a) ≤ length (now places) ⌝ }
     ensures { λ r. ⌜ Put (now (out .entry)) 0 (printed letter tagsOf (reply a) (now (places .entry))) r (now (out .exit)) ⌝ }
 {
-    let r = answer_reply(a);
+    let r = reply_of(a);
     let n = r.value;
     if r.number != 0 {
         return put_answer(out, letter, a);
@@ -76,7 +65,7 @@ fn put_written(out: &mut [u8], a: Answer, sheet: &[u8]) -> usize
     requires { ⌜ headRoom + 1 + 2 * length (now sheet) + 1 ≤ length (now out) ⌝ ∗ ⌜ setDownBy (reply a) ≤ length (now sheet) ⌝ }
     ensures { λ r. ⌜ Put (now (out .entry)) 0 (printed writesLetter sheetText (reply a) (now (sheet .entry))) r (now (out .exit)) ⌝ }
 {
-    let r = answer_reply(a);
+    let r = reply_of(a);
     let n = r.value;
     if r.number != 0 {
         return put_answer(out, desk_text::WRITES, a);
@@ -89,10 +78,11 @@ fn register_line(line: &[u8], reg: &mut [u8], nodes: &[u16], out: &mut [u8]) -> 
     requires { ⌜ Begins (now line) registers ⌝ ∗ ⌜ Ready (now reg) ⌝ ∗ ⌜ headRoom + 1 ≤ length (now out) ⌝ }
     ensures { λ r. ⌜ Answers (registerLine (now (line .entry)) (tables (now (reg .entry)) (now (nodes .entry)))) (now (out .entry)) r (now (out .exit)) (tables (now (reg .exit)) (now (nodes .entry))) ⌝ ∗ ⌜ Ready (now (reg .exit)) ⌝ }
 {
-    let a = register_in(reg, &line[BEHIND_LETTER..]);
-    let r = registered_reply(a);
-    let number = r.number;
-    put_reply(out, desk_text::REGISTERS, wide8(number), r.value)
+    put_answer(
+        out,
+        desk_text::REGISTERS,
+        register_in(reg, &line[BEHIND_LETTER..]),
+    )
 }
 
 // "W writes".
@@ -113,9 +103,10 @@ fn insert_line(line: &[u8], reg: &[u8], nodes: &mut [u16], out: &mut [u8]) -> us
     let end = end_of(line, BEHIND_LETTER, desk_text::SPACE);
     let tag = read_amount(&line[BEHIND_LETTER..end]);
     let read = read_list(line, end + 1, reg, &mut list);
-    let Read::List(n) = read else {
-        return put_reply(out, desk_text::INSERTS, stop_number(read), 0);
-    };
+    if refused(read) {
+        return put_answer(out, desk_text::INSERTS, read);
+    }
+    let n = reply_of(read).value;
     let a = catalogue::insert(reg, nodes, &list[..n], tag.value);
     put_answer(out, desk_text::INSERTS, a)
 }
@@ -166,9 +157,10 @@ fn ask_line(
 {
     let mut list = [0u16; LIST_WORDS];
     let read = read_list(line, BEHIND_LETTER, reg, &mut list);
-    let Read::List(n) = read else {
-        return put_reply(out, letter, stop_number(read), 0);
-    };
+    if refused(read) {
+        return put_answer(out, letter, read);
+    }
+    let n = reply_of(read).value;
     ask(letter, &list[..n], reg, nodes, places, out)
 }
 

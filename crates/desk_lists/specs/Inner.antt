@@ -6,10 +6,9 @@ use mathlib.Core.List.{List}
 use Prim.Native.Nat.{ℕ, _+_, _≤_}
 use lib.ListN.{length, take}
 use Rattle.ground.specs.Lists.{allb}
+use Rattle.ground.specs.Calls.{Reply, done, refused, valueOf, leaves}
 use Rattle.desk_text.specs.Lines.{longestLine, fieldsFrom, filled, goodPairs}
 use Rattle.desk_lists.specs.Typed.{Typed, typed, stopped, lookedUp}
-use Rattle.desk_lists.specs.declared.Read.{Read}
-use Rattle.desk_lists.specs.declared.Read.the-variants as read
 
 -- "A line is at most 512 bytes": a pair takes four of them at least, so the list is no longer than this
 abbrev pub mostWords : ℕ
@@ -22,15 +21,11 @@ pub record Pairs (l : List ℕ) (at : ℕ) : Type 0 where
   pub some : allb filled (fieldsFrom l at) ≡ true
   pub good : goodPairs (fieldsFrom l at) ≡ true
 
--- what the answer of reading a list says of the output where the list stands
-abbrev pub said : Read → List ℕ → Typed
-said (read.List n) out = typed (take n out)
-said (read.Refused n) out = stopped n 0
+-- what the reply of reading a list says of the output where the list stands
+abbrev pub said : Reply → List ℕ → Typed
+said (done n) out = typed (take n out)
+said (refused n v) out = stopped n v
 
-abbrev pub wordsRead : Read → ℕ
-wordsRead (read.List n) = n
-wordsRead (read.Refused n) = 0
-
-pub record ReadAs (R l : List ℕ) (at : ℕ) (r : Read) (out : List ℕ) : Type 0 where
+pub record ReadAs (R l : List ℕ) (at : ℕ) (r : Reply) (out : List ℕ) : Type 0 where
   pub says : said r out ≡ lookedUp R (fieldsFrom l at)
-  pub inside : wordsRead r ≤ length out
+  pub inside : leaves r 0 (valueOf r) ≤ length out

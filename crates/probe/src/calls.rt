@@ -1,15 +1,11 @@
 // The letters: each makes one call, on what it needs of the memory lent. A new letter is a line of `call`.
 use crate::reading::Request;
-use lent::Answer;
+use answers::Answer;
+use answers::reply_of;
 use register::look_up;
 use register::register_number;
 use register::show;
 use register::show_answer;
-use replies::Reply;
-use replies::answer_reply;
-use replies::looked_reply;
-use replies::registered_reply;
-use replies::shown_reply;
 
 // A reply, and the second and third number of a call that has them.
 pub struct Told {
@@ -24,17 +20,14 @@ pub enum Called {
     Unknown,
 }
 
-fn answers(r: Reply) -> Called {
+fn tells(a: Answer) -> Called {
+    let r = reply_of(a);
     Called::Answers(Told {
         number: r.number,
         value: r.value,
         second: 0,
         third: 0,
     })
-}
-
-fn tells(a: Answer) -> Called {
-    answers(answer_reply(a))
 }
 
 pub fn call(
@@ -52,9 +45,9 @@ pub fn call(
 ) -> Called {
     let letter = ask.letter;
     match letter {
-        b'p' => answers(registered_reply(register_number(reg, input))),
-        b'l' => answers(looked_reply(look_up(reg, input))),
-        b'n' => answers(shown_reply(show_answer(reg, ask.a))),
+        b'p' => tells(register_number(reg, input)),
+        b'l' => tells(look_up(reg, input)),
+        b'n' => tells(show_answer(reg, ask.a)),
         b'e' => tells(catalogue::empty(reg, nodes)),
         b'k' => tells(catalogue::insert(reg, nodes, list, ask.a)),
         b'f' => tells(catalogue::find(reg, nodes, list)),

@@ -1,7 +1,9 @@
 -- A good K line is a tag and pairs, so the list can be read; a lookup refused is the answer, else the insertion.
-use mathlib.Core.Path.{sym}
+use mathlib.Core.Path.{_≡_, sym, _∙_}
+use mathlib.Core.Bool.{false}
 use lib.Seq.{length-take-le}
 use Rattle.lent.specs.Lent.{tables}
+use Rattle.ground.specs.Calls.{isRefused}
 use Rattle.answers.specs.Answers.{reply}
 use Rattle.desk_text.specs.Lines.{fieldsFrom}
 use Prim.Native.Nat.{_+_}
@@ -46,56 +48,61 @@ read-list-requires c κs =
       (start .pre .1 .0, search needs),
     )
 
-enum-known-read : tie.Need-enum-known-read
-enum-known-read c = search needs
+-- the list was read
+read-done : (c : tie.Else1) →
+    let at-read-list : tie.After-read-list = search in
+    isRefused (reply (at-read-list .read-list .result)) ≡ false
+read-done c = sym (c .before .refused .ensures) ∙ c .if1 .left
 
-enum-told : tie.Need-enum-told
-enum-told c = search needs
+refused-requires : tie.Need-refused-requires
+refused-requires c κs = search needs
 
-stop-number-requires : tie.Need-stop-number-requires
-stop-number-requires c κs = search needs
-
-put-reply-requires : tie.Need-put-reply-requires
-put-reply-requires c κs = search needs
+put-answer-requires : tie.Need-put-answer-requires
+put-answer-requires c κs = search needs
 
 same-length : tie.Need-same-length
 same-length c = search needs
 
 returns : tie.Need-returns
 returns c =
-    let at-stop-number : tie.After-stop-number = search in
-    let at-enum-told : tie.After-enum-told = search in
+    let at-put-answer : tie.After-put-answer = search in
+    let then1 : tie.Then1 = search in
+    let at-refused : tie.After-refused = search in
     let at-read-list : tie.After-read-list = search in
     let at-end-of : tie.After-end-of = search in
     let start : tie.Start = search in
     let a = start .args in
     let l = a .line .now in
     let T = tables (a .reg .now) (a .nodes .now) in
-    insert-stopped l T (at-read-list .read-list .result) _
+    insert-stopped l T (reply (at-read-list .read-list .result)) _
     (fieldsFrom l (at-end-of .end-of .result + 1)) (at-read-list .read-list .ensures .says)
     (fieldAt l 2 (at-end-of .end-of .result))
     (tag-first l (start .pre .0 .good) (start .pre .0 .letter) _ (at-end-of .end-of .ensures))
-    _ (at-stop-number .stop-number .result) (at-enum-told .enum-told .given .1)
-    (at-stop-number .stop-number .ensures) (c .before .before .put-reply .ensures)
+    (sym (at-refused .refused .ensures) ∙ then1 .if1 .taken) (at-put-answer .put-answer .ensures)
+
+reply-of-requires : tie.Need-reply-of-requires
+reply-of-requires c κs = search needs
 
 array-share-prefix-list : tie.Need-array-share-prefix-list
 array-share-prefix-list c =
+    let at-reply-of : tie.After-reply-of = search in
+    let else1 : tie.Else1 = search in
     let at-read-list : tie.After-read-list = search in
-    words-inside _ _ _ (c .before .before .read .given .1) (at-read-list .read-list .ensures .inside)
+    words-inside _ _ _ (at-reply-of .reply-of .ensures .value) (read-done else1) (at-read-list .read-list .ensures .inside)
 
 slice-aggregate-insert : tie.Need-slice-aggregate-insert
 slice-aggregate-insert c =
-    let at-read : tie.After-read = search in
+    let at-reply-of : tie.After-reply-of = search in
+    let else1 : tie.Else1 = search in
     let at-read-list : tie.After-read-list = search in
     sym (length-take-le _ _
-    (words-inside _ _ _ (at-read .read .given .1)
-    (at-read-list .read-list .ensures .inside)))
+    (words-inside _ _ _ (at-reply-of .reply-of .ensures .value) (read-done else1) (at-read-list .read-list .ensures .inside)))
 
 insert-requires : tie.Need-insert-requires
 insert-requires c κs = search needs
 
-put-answer-requires : tie.Need-put-answer-requires
-put-answer-requires c κs = search needs
+put-answer-requires-2 : tie.Need-put-answer-requires-2
+put-answer-requires-2 c κs = search needs
 
 same-length-2 : tie.Need-same-length-2
 same-length-2 c = search needs
@@ -105,8 +112,10 @@ same-length-3 c = search needs
 
 returns-2 : tie.Need-returns-2
 returns-2 c =
+    let at-put-answer2 : tie.After-put-answer2 = search in
     let at-insert : tie.After-insert = search in
-    let at-read : tie.After-read = search in
+    let at-reply-of : tie.After-reply-of = search in
+    let else1 : tie.Else1 = search in
     let at-read-list : tie.After-read-list = search in
     let at-read-amount : tie.After-read-amount = search in
     let at-end-of : tie.After-end-of = search in
@@ -117,11 +126,12 @@ returns-2 c =
     let g = start .pre .0 .good in
     let x = start .pre .0 .letter in
     let e = at-end-of .end-of .ensures in
-    insert-typed l T (at-read-list .read-list .result) _ (fieldsFrom l (at-end-of .end-of .result + 1))
+    insert-typed l T (reply (at-read-list .read-list .result)) _ (fieldsFrom l (at-end-of .end-of .result + 1))
     (at-read-list .read-list .ensures .says) (fieldAt l 2 (at-end-of .end-of .result)) (tag-first l g x _ e)
-    _ (at-read-amount .read-amount .result .value) (reply (at-insert .insert .result)) _ (at-read .read .given .1)
+    _ (at-read-amount .read-amount .result .value) (reply (at-insert .insert .result)) _
+    (at-reply-of .reply-of .ensures .value) (read-done else1)
     (amount-value _ _ (at-read-amount .read-amount .ensures) (tag-good l g x _ e)) (at-insert .insert .ensures)
-    (c .before .before .put-answer .ensures)
+    (at-put-answer2 .put-answer2 .ensures)
 
 pub insert-line-spec : {M : Type 1} → statement M
 insert-line-spec =
@@ -135,16 +145,15 @@ insert-line-spec =
     add-read-list
     slice-aggregate-read-list
     read-list-requires
-    enum-known-read
-    enum-told
-    stop-number-requires
-    put-reply-requires
+    refused-requires
+    put-answer-requires
     same-length
     returns
+    reply-of-requires
     array-share-prefix-list
     slice-aggregate-insert
     insert-requires
-    put-answer-requires
+    put-answer-requires-2
     same-length-2
     same-length-3
     returns-2)

@@ -7,10 +7,10 @@ use Rattle.desk_lines.proofs.put_answer.Reads as reads
 use Rattle.desk_lines.proofs.put_answer.Lts as lts
 use Rattle.desk_replies.proofs.put_reply.Reads as put-reply-reads
 use Rattle.ground.proofs.wide8.Reads as wide8-reads
-use Rattle.replies.proofs.answer_reply.Reads as answer-reply-reads
+use Rattle.answers.proofs.reply_of.Reads as reply-of-reads
 
-answer-reply-requires : tie.Need-answer-reply-requires
-answer-reply-requires c κs = search needs
+reply-of-requires : tie.Need-reply-of-requires
+reply-of-requires c κs = search needs
 
 wide8-requires : tie.Need-wide8-requires
 wide8-requires c κs = search needs
@@ -27,4 +27,4 @@ returns c = put-same (c .before .before .put-reply .ensures) (cc)
 pub put-answer-spec : {M : Type 1} → statement M
 put-answer-spec =
     tie.close
-    (tie.spec answer-reply-requires wide8-requires put-reply-requires same-length returns)
+    (tie.spec reply-of-requires wide8-requires put-reply-requires same-length returns)

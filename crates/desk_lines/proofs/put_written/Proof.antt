@@ -11,10 +11,10 @@ use Rattle.desk_lines.proofs.put_written.Reads as reads
 use Rattle.desk_lines.proofs.put_written.Lts as lts
 use Rattle.desk_lines.proofs.put_answer.Reads as put-answer-reads
 use Rattle.desk_replies.proofs.put_sheet.Reads as put-sheet-reads
-use Rattle.replies.proofs.answer_reply.Reads as answer-reply-reads
+use Rattle.answers.proofs.reply_of.Reads as reply-of-reads
 
-answer-reply-requires : tie.Need-answer-reply-requires
-answer-reply-requires c κs = search needs
+reply-of-requires : tie.Need-reply-of-requires
+reply-of-requires c κs = search needs
 
 put-answer-requires : tie.Need-put-answer-requires
 put-answer-requires c κs = search needs
@@ -25,30 +25,30 @@ same-length c = search needs
 returns : tie.Need-returns
 returns c =
     let then1 : tie.Then1 = search in
-    let at-answer-reply : tie.After-answer-reply = search in
+    let at-reply-of : tie.After-reply-of = search in
     let start : tie.Start = search in
     let a = start .args in
-    let m = at-answer-reply .answer-reply .ensures in
+    let m = at-reply-of .reply-of .ensures in
     printed-refused (a .a) (a .sheet .now) writes sheetText
-    (at-answer-reply .answer-reply .result .number) (m .number)
+    (at-reply-of .reply-of .result .number) (m .number)
     (then1 .if1 .taken) (c .before .before .put-answer .ensures)
 
 slice-aggregate-put-sheet : tie.Need-slice-aggregate-put-sheet
 slice-aggregate-put-sheet c =
-    let at-answer-reply : tie.After-answer-reply = search in
+    let at-reply-of : tie.After-reply-of = search in
     let start : tie.Start = search in
     let a = start .args in
-    let m = at-answer-reply .answer-reply .ensures in
+    let m = at-reply-of .reply-of .ensures in
     sym (done-length (a .a) (a .sheet .now) _ _ (m .number) (c .before .before .if1 .left) (m .value)
     (start .pre .1))
 
 put-sheet-requires : tie.Need-put-sheet-requires
 put-sheet-requires c κs =
     let else1 : tie.Else1 = search in
-    let at-answer-reply : tie.After-answer-reply = search in
+    let at-reply-of : tie.After-reply-of = search in
     let start : tie.Start = search in
     let a = start .args in
-    let m = at-answer-reply .answer-reply .ensures in
+    let m = at-reply-of .reply-of .ensures in
     let n = done-length (a .a) (a .sheet .now) _ _ (m .number) (else1 .if1 .left) (m .value)
     (start .pre .1) in
     let i = done-inside (a .a) (a .sheet .now) _ _ (m .number) (else1 .if1 .left) (m .value)
@@ -62,10 +62,10 @@ returns-2 : tie.Need-returns-2
 unfolding sheetText
 returns-2 c =
     let else1 : tie.Else1 = search in
-    let at-answer-reply : tie.After-answer-reply = search in
+    let at-reply-of : tie.After-reply-of = search in
     let start : tie.Start = search in
     let a = start .args in
-    let m = at-answer-reply .answer-reply .ensures in
+    let m = at-reply-of .reply-of .ensures in
     printed-done (a .a) (a .sheet .now) _ _ (m .number) (else1 .if1 .left) (m .value)
     (start .pre .1) writes sheetText
     (c .before .before .put-sheet .ensures)
@@ -74,7 +74,7 @@ pub put-written-spec : {M : Type 1} → statement M
 put-written-spec =
     tie.close
     (tie.spec
-    answer-reply-requires
+    reply-of-requires
     put-answer-requires
     same-length
     returns

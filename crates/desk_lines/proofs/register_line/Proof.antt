@@ -1,8 +1,7 @@
 -- A good P line has one field, its number, from 2 to the end; a ready register stays ready, whatever is entered.
 use Rattle.desk_lines.proofs.Answering.{ready-kept, register-put}
 use Rattle.desk_lines.proofs.Good.{number-there, number-typed}
-use Rattle.desk_replies.proofs.Replies.{put-same}
-use Rattle.register.specs.Calls.{registeredReply}
+use Rattle.answers.specs.Answers.{reply}
 use Rattle.register.specs.Inner.{Ready}
 use Prim.Native.Nat.{ℕ}
 use mathlib.Core.List.{List}
@@ -12,10 +11,7 @@ use Rattle.desk_lines.proofs.register_line.Statement.{statement}
 use Rattle.desk_lines.proofs.register_line.Tie as tie
 use Rattle.desk_lines.proofs.register_line.Reads as reads
 use Rattle.desk_lines.proofs.register_line.Lts as lts
-use Rattle.desk_replies.proofs.put_reply.Reads as put-reply-reads
-use Rattle.ground.proofs.wide8.Reads as wide8-reads
 use Rattle.register.proofs.register_in.Reads as register-in-reads
-use Rattle.replies.proofs.registered_reply.Reads as registered-reply-reads
 
 sub-register-in : tie.Need-sub-register-in
 sub-register-in c =
@@ -35,14 +31,8 @@ part-register-in-end c = search needs
 register-in-requires : tie.Need-register-in-requires
 register-in-requires c κs = search needs
 
-registered-reply-requires : tie.Need-registered-reply-requires
-registered-reply-requires c κs = search needs
-
-wide8-requires : tie.Need-wide8-requires
-wide8-requires c κs = search needs
-
-put-reply-requires : tie.Need-put-reply-requires
-put-reply-requires c κs = search needs
+put-answer-requires : tie.Need-put-answer-requires
+put-answer-requires c κs = search needs
 
 same-length : tie.Need-same-length
 same-length c = search needs
@@ -52,6 +42,7 @@ same-length-2 c = search needs
 
 returns : tie.Need-returns
 returns c =
+    let at-put-answer : tie.After-put-answer = search in
     let at-register-in : tie.After-register-in = search in
     let start : tie.Start = search in
     let a = start .args in
@@ -59,8 +50,7 @@ returns c =
     (start .pre .0 .good) (start .pre .0 .letter) in
     let p = at-register-in .register-in .ensures in (
       register-put (a .line .now) (a .reg .now) (a .nodes .now) _
-          (registeredReply (at-register-in .register-in .result)) _ (sym n) p
-          (put-same (c .before .before .put-reply .ensures) (cc)),
+          (reply (at-register-in .register-in .result)) _ (sym n) p (at-put-answer .put-answer .ensures),
       subst (λ (m : List ℕ). Ready m) (sym (p .lent))
           (ready-kept _ (a .reg .now)
           (start .pre .1 .0)),
@@ -74,9 +64,7 @@ register-line-spec =
     part-register-in-start
     part-register-in-end
     register-in-requires
-    registered-reply-requires
-    wide8-requires
-    put-reply-requires
+    put-answer-requires
     same-length
     same-length-2
     returns)

@@ -1,18 +1,13 @@
 -- The list so far, before what the pairs to come type, is all; a pair takes four bytes, so 256 words are enough.
-use mathlib.Core.List.{[], _∷_}
-use mathlib.Core.Logic.{⊎-elim}
-use denote.Enum.Declared as decl
-use types.Run as run
-use Rattle.ground.specs.Calls.{refused, numberOf}
-use Rattle.register.specs.declared.Looked.{Looked}
-use Rattle.register.specs.declared.Looked.the-variants as looked
-use Rattle.register.proofs.Looked as declared
-use mathlib.Core.Path.{_≡_, ap, sym, _∙_, refl}
+use mathlib.Core.Path.{ap, sym, _∙_}
 use Prim.Native.Nat.{_+_, _-_}
 use native.Mathlib.Omega.{arith}
 use borrow.Author.Needs.{needs}
 use lib.ListN.{length}
-use Rattle.register.specs.Calls.{lookedReply}
+use Rattle.ground.specs.Calls.{Reply, done, numberOf, valueOf, leaves}
+use Rattle.ground.proofs.Calls.{passed-done, refused-says, refused-leaves}
+use Rattle.answers.specs.Answers.{reply}
+use Rattle.desk_lists.specs.Inner.{said}
 use Rattle.desk_text.proofs.Amounts.{amount-value}
 use Rattle.desk_lists.proofs.Typing.{Reading, reading-start, reading-inside, reading-end, reading-stopped, reading-on, pair-room, quantity-follows, amount-follows}
 use Rattle.desk_lists.proofs.read_list.Statement.{statement}
@@ -23,17 +18,6 @@ Inv-loop line from reg list₀ n₀ at₀ list n at = Reading reg line from list
 
 abbrev μ-loop : tie.MeasureT-loop
 μ-loop line from reg list₀ n₀ at₀ list n at = length line + 1 - at
-
--- a variant other than the first is a refusal, of value 0
-looked-stops : (s : Looked) → run.OneOf (1 ∷ 2 ∷ 3 ∷ 4 ∷ []) (decl.tagOf declared.the-type s) →
-    lookedReply s ≡ refused (numberOf (lookedReply s)) 0
-looked-stops (looked.Place p) k =
-    absurd
-    (⊎-elim (λ h. omega arith) (λ k′. ⊎-elim (λ h. omega arith) (λ k″. ⊎-elim (λ h. omega arith) (λ h. omega arith) k″) k′) k)
-looked-stops looked.WrongLength k = refl
-looked-stops looked.NotSound k = refl
-looked-stops looked.BadNumber k = refl
-looked-stops looked.NotHeld k = refl
 
 loop-holds : tie.Need-loop-holds Inv-loop μ-loop
 loop-holds c =
@@ -57,11 +41,8 @@ look-up-in-requires c κs =
     let start : tie.Start Inv-loop μ-loop = search in
     start .pre .1 .0
 
-enum-known-found : tie.Need-enum-known-found Inv-loop μ-loop
-enum-known-found c = search needs
-
-looked-reply-requires : tie.Need-looked-reply-requires Inv-loop μ-loop
-looked-reply-requires c κs = search needs
+refused-requires : tie.Need-refused-requires Inv-loop μ-loop
+refused-requires c κs = search needs
 
 same-length : tie.Need-same-length Inv-loop μ-loop
 same-length c =
@@ -70,18 +51,30 @@ same-length c =
 
 returns : tie.Need-returns Inv-loop μ-loop
 returns c =
+    let at-refused : tie.After-refused Inv-loop μ-loop = search in
+    let then1 : tie.Then1 Inv-loop μ-loop = search in
     let at-look-up-in : tie.After-look-up-in Inv-loop μ-loop = search in
     let at-end-of : tie.After-end-of Inv-loop μ-loop = search in
     let in-loop : tie.In-loop Inv-loop μ-loop = search in
     let at-loop : tie.At-loop Inv-loop μ-loop = search in
-    let a = sym (at-look-up-in .look-up-in .ensures) ∙ looked-stops (at-look-up-in .look-up-in .result) (c .before .match .keys2)
-    ∙ ap (λ n. refused n 0) (sym (c .looked-reply .ensures .number)) in
+    let a = reply (at-look-up-in .look-up-in .result) in
+    let e = sym (at-refused .refused .ensures) ∙ then1 .if1 .taken in
+    let q = refused-says a e in
     record {
-      says =
-          reading-stopped (at-loop .loop .inv) (at-end-of .end-of .result) (in-loop .loop-test .taken) (at-end-of .end-of .ensures)
-          (c .looked-reply .result .number) 0 a;
-      inside = omega arith;
+      says = ap (λ (z : Reply). said z (at-loop .loop .list)) q
+          ∙ reading-stopped (at-loop .loop .inv) (at-end-of .end-of .result) (in-loop .loop-test .taken) (at-end-of .end-of .ensures)
+          (numberOf a) (valueOf a) (sym (at-look-up-in .look-up-in .ensures .0) ∙ q);
+      inside = rw (refused-leaves a 0 (valueOf a) e) (omega arith);
     }
+
+reply-of-requires : tie.Need-reply-of-requires Inv-loop μ-loop
+reply-of-requires c κs = search needs
+
+cast-place : tie.Need-cast-place Inv-loop μ-loop
+cast-place c =
+    let at-reply-of : tie.After-reply-of Inv-loop μ-loop = search in
+    let at-look-up-in : tie.After-look-up-in Inv-loop μ-loop = search in
+    omega (arith, at-reply-of .reply-of .ensures .value, at-look-up-in .look-up-in .ensures .1)
 
 add-start : tie.Need-add-start Inv-loop μ-loop
 add-start c =
@@ -132,7 +125,8 @@ add-n c =
 add-at : tie.Need-add-at Inv-loop μ-loop
 add-at c =
     let at-end-of2 : tie.After-end-of2 Inv-loop μ-loop = search in
-    omega (arith, at-end-of2 .end-of2 .ensures .high)
+    let at-loop : tie.At-loop Inv-loop μ-loop = search in
+    omega (arith, at-end-of2 .end-of2 .ensures .high, at-loop .loop .inv .pairs .short)
 
 loop-less : tie.Need-loop-less Inv-loop μ-loop
 loop-less c =
@@ -144,22 +138,26 @@ loop-again : tie.Need-loop-again Inv-loop μ-loop
 loop-again c =
     let at-read-amount : tie.After-read-amount Inv-loop μ-loop = search in
     let at-end-of2 : tie.After-end-of2 Inv-loop μ-loop = search in
-    let at-found : tie.After-found Inv-loop μ-loop = search in
+    let at-reply-of : tie.After-reply-of Inv-loop μ-loop = search in
+    let else1 : tie.Else1 Inv-loop μ-loop = search in
+    let at-refused : tie.After-refused Inv-loop μ-loop = search in
     let at-look-up-in : tie.After-look-up-in Inv-loop μ-loop = search in
     let at-end-of : tie.After-end-of Inv-loop μ-loop = search in
     let in-loop : tie.In-loop Inv-loop μ-loop = search in
     let at-loop : tie.At-loop Inv-loop μ-loop = search in
-    let a = sym (at-look-up-in .look-up-in .ensures) ∙ ap lookedReply (at-found .found .given .1) in
+    let a = sym (at-look-up-in .look-up-in .ensures .0) ∙ passed-done (reply (at-look-up-in .look-up-in .result)) (sym (at-refused .refused .ensures) ∙ else1 .if1 .left)
+    ∙ ap done (sym (at-reply-of .reply-of .ensures .value)) in
     let g = amount-follows _ _ _ (at-loop .loop .inv .pairs) (in-loop .loop-test .taken) (at-end-of .end-of .ensures) _
     (at-end-of2 .end-of2 .ensures) in
     reading-on (at-loop .loop .inv) _ (in-loop .loop-test .taken) (at-end-of .end-of .ensures) _ (at-end-of2 .end-of2 .ensures)
-    (at-found .found .given .0 .0) (at-read-amount .read-amount .result .value) _ a
+    (at-reply-of .reply-of .result .value) (at-read-amount .read-amount .result .value) _ a
     (amount-value _ _ (at-read-amount .read-amount .ensures) g) (c .before .before .put-pair .ensures)
 
 same-length-2 : tie.Need-same-length-2 Inv-loop μ-loop
 same-length-2 c = c .before .loop .inv .size
 
 returns-2 : tie.Need-returns-2 Inv-loop μ-loop
+unfolding leaves
 returns-2 c =
     record { says = reading-end (c .before .loop .inv) (c .loop-test .left); inside = reading-inside (c .before .loop .inv) }
 
@@ -175,10 +173,11 @@ read-list-spec =
     part-look-up-in-start
     part-look-up-in-end
     look-up-in-requires
-    enum-known-found
-    looked-reply-requires
+    refused-requires
     same-length
     returns
+    reply-of-requires
+    cast-place
     add-start
     end-of-requires-2
     sub-read-amount
