@@ -120,7 +120,7 @@ lines-plain : (n prev k : ℕ) (l : List ℕ) → Every Plain (linesFaults n pre
 unfolding lineFaults linesFaults lineValue
 lines-plain n prev k [] = none
 lines-plain n prev k (p ∷ []) = none
-lines-plain n prev k (p ∷ (q ∷ l)) = also refl (also refl (also refl (lines-plain n p (suc k) l)))
+lines-plain n prev k (p ∷ q ∷ l) = also refl (also refl (also refl (lines-plain n p (suc k) l)))
 
 faults-plain : (n : ℕ) (l : List ℕ) → Every Plain (listFaults n l)
 unfolding listFaults lineValue

@@ -19,11 +19,11 @@ inserted t (r ∷ rs) = insertKit (listOf r) t ∷ inserted (suc t) rs
 
 -- the tables of a catalogue of the parts A, B, C and four nodes, with kits that have the tags 1, 2, ..
 unfoldable pub holding : List (List ℕ) → Tables
-holding rs = tablesOf (record { slots = 3; room = 4; calls = registerPart (65 ∷ []) ∷ (registerPart (66 ∷ []) ∷ (registerPart (67 ∷ []) ∷ inserted 1 rs)) })
+holding rs = tablesOf (record { slots = 3; room = 4; calls = registerPart (65 ∷ []) ∷ registerPart (66 ∷ []) ∷ registerPart (67 ∷ []) ∷ inserted 1 rs })
 
 -- all kits that answer a question on some units: the reply, and an output of two places
 unfoldable pub asked : Question → List (List ℕ) → List ℕ → Reply × List ℕ
-asked question rs r = let p = allKits question (listOf r) (holding rs) (0 ∷ (0 ∷ [])) in (answer p, memory p (0 ∷ (0 ∷ [])))
+asked question rs r = let p = allKits question (listOf r) (holding rs) (0 ∷ 0 ∷ []) in (answer p, memory p (0 ∷ 0 ∷ []))
 
 -- a kit deleted: the reply, and the nodes used then
 unfoldable pub struck : List (List ℕ) → List ℕ → Reply × ℕ
@@ -33,30 +33,30 @@ struck rs r = let p = deleting (listOf r) (holding rs) in (answer p, length (use
 abbrev pub ShortCases : Type 0
 ShortCases =
     -- none; within {1}; none
-    (asked isWithin [] (1 ∷ []) ≡ (done 0, 0 ∷ (0 ∷ [])))
+    (asked isWithin [] (1 ∷ []) ≡ (done 0, 0 ∷ 0 ∷ []))
     -- (); within (); ()
-    × (asked isWithin ([] ∷ []) [] ≡ (done 1, 1 ∷ (0 ∷ [])))
+    × (asked isWithin ([] ∷ []) [] ≡ (done 1, 1 ∷ 0 ∷ []))
     -- (); containing {1}; none
-    × (asked isContaining ([] ∷ []) (1 ∷ []) ≡ (done 0, 0 ∷ (0 ∷ [])))
+    × (asked isContaining ([] ∷ []) (1 ∷ []) ≡ (done 0, 0 ∷ 0 ∷ []))
     -- (1), (1, 1); within {1}; (1)
-    × (asked isWithin ((1 ∷ []) ∷ ((1 ∷ (1 ∷ [])) ∷ [])) (1 ∷ []) ≡ (done 1, 1 ∷ (0 ∷ [])))
+    × (asked isWithin ((1 ∷ []) ∷ (1 ∷ 1 ∷ []) ∷ []) (1 ∷ []) ≡ (done 1, 1 ∷ 0 ∷ []))
     -- (1), (1, 1); containing {1}; (1), (1, 1)
-    × (asked isContaining ((1 ∷ []) ∷ ((1 ∷ (1 ∷ [])) ∷ [])) (1 ∷ []) ≡ (done 2, 1 ∷ (2 ∷ [])))
+    × (asked isContaining ((1 ∷ []) ∷ (1 ∷ 1 ∷ []) ∷ []) (1 ∷ []) ≡ (done 2, 1 ∷ 2 ∷ []))
     -- (1, 3); containing {3}; (1, 3)
-    × (asked isContaining ((1 ∷ (3 ∷ [])) ∷ []) (3 ∷ []) ≡ (done 1, 1 ∷ (0 ∷ [])))
+    × (asked isContaining ((1 ∷ 3 ∷ []) ∷ []) (3 ∷ []) ≡ (done 1, 1 ∷ 0 ∷ []))
     -- (2); within {1, 2}; (2)
-    × (asked isWithin ((2 ∷ []) ∷ []) (1 ∷ (2 ∷ [])) ≡ (done 1, 1 ∷ (0 ∷ [])))
+    × (asked isWithin ((2 ∷ []) ∷ []) (1 ∷ 2 ∷ []) ≡ (done 1, 1 ∷ 0 ∷ []))
     -- (1, 2), (2); within {2, 3}; (2)
-    × (asked isWithin ((1 ∷ (2 ∷ [])) ∷ ((2 ∷ []) ∷ [])) (2 ∷ (3 ∷ [])) ≡ (done 1, 2 ∷ (0 ∷ [])))
+    × (asked isWithin ((1 ∷ 2 ∷ []) ∷ (2 ∷ []) ∷ []) (2 ∷ 3 ∷ []) ≡ (done 1, 2 ∷ 0 ∷ []))
     -- (1), (1, 2); delete (1), nodes used; 3
-    × (struck ((1 ∷ []) ∷ ((1 ∷ (2 ∷ [])) ∷ [])) (1 ∷ []) ≡ (done 1, 3))
+    × (struck ((1 ∷ []) ∷ (1 ∷ 2 ∷ []) ∷ []) (1 ∷ []) ≡ (done 1, 3))
     -- (1), (1, 2); delete (1, 2), nodes used; 2
-    × (struck ((1 ∷ []) ∷ ((1 ∷ (2 ∷ [])) ∷ [])) (1 ∷ (2 ∷ [])) ≡ (done 2, 2))
+    × (struck ((1 ∷ []) ∷ (1 ∷ 2 ∷ []) ∷ []) (1 ∷ 2 ∷ []) ≡ (done 2, 2))
 
 -- Request 1: the kits that units almost fill but for at most d, the reply and outputs of two places each
 unfoldable pub askedAlmost : ℕ → List (List ℕ) → List ℕ → Reply × Both
 askedAlmost d rs r =
-    let o = both (0 ∷ (0 ∷ [])) (9 ∷ (9 ∷ [])) in
+    let o = both (0 ∷ 0 ∷ []) (9 ∷ 9 ∷ []) in
     let p = almostKits d (listOf r) (holding rs) o in
     (answer p, memory p o)
 
@@ -64,31 +64,31 @@ askedAlmost d rs r =
 -- it is. Proof: proofs/ShortCases, `almost-cases`
 abbrev pub AlmostCases : Type 0
 AlmostCases =
-    (askedAlmost 0 ((1 ∷ []) ∷ ((1 ∷ (1 ∷ (1 ∷ []))) ∷ [])) (2 ∷ (2 ∷ (2 ∷ []))) ≡ (done 0, both (0 ∷ (0 ∷ [])) (9 ∷ (9 ∷ []))))
-    × (askedAlmost 2 ((1 ∷ []) ∷ ((1 ∷ (1 ∷ (1 ∷ []))) ∷ [])) (2 ∷ (2 ∷ (2 ∷ []))) ≡ (done 1, both (1 ∷ (0 ∷ [])) (1 ∷ (9 ∷ []))))
-    × (askedAlmost 3 ((1 ∷ []) ∷ ((1 ∷ (1 ∷ (1 ∷ []))) ∷ [])) (2 ∷ (2 ∷ (2 ∷ []))) ≡ (done 2, both (1 ∷ (2 ∷ [])) (1 ∷ (3 ∷ []))))
-    × (askedAlmost 1 ((1 ∷ (1 ∷ [])) ∷ ((1 ∷ (3 ∷ [])) ∷ [])) (1 ∷ (2 ∷ [])) ≡ (done 2, both (1 ∷ (2 ∷ [])) (1 ∷ (1 ∷ []))))
-    × (askedAlmost 65 ((1 ∷ []) ∷ []) (1 ∷ []) ≡ (refused 14 0, both (0 ∷ (0 ∷ [])) (9 ∷ (9 ∷ []))))
+    (askedAlmost 0 ((1 ∷ []) ∷ (1 ∷ 1 ∷ 1 ∷ []) ∷ []) (2 ∷ 2 ∷ 2 ∷ []) ≡ (done 0, both (0 ∷ 0 ∷ []) (9 ∷ 9 ∷ [])))
+    × (askedAlmost 2 ((1 ∷ []) ∷ (1 ∷ 1 ∷ 1 ∷ []) ∷ []) (2 ∷ 2 ∷ 2 ∷ []) ≡ (done 1, both (1 ∷ 0 ∷ []) (1 ∷ 9 ∷ [])))
+    × (askedAlmost 3 ((1 ∷ []) ∷ (1 ∷ 1 ∷ 1 ∷ []) ∷ []) (2 ∷ 2 ∷ 2 ∷ []) ≡ (done 2, both (1 ∷ 2 ∷ []) (1 ∷ 3 ∷ [])))
+    × (askedAlmost 1 ((1 ∷ 1 ∷ []) ∷ (1 ∷ 3 ∷ []) ∷ []) (1 ∷ 2 ∷ []) ≡ (done 2, both (1 ∷ 2 ∷ []) (1 ∷ 1 ∷ [])))
+    × (askedAlmost 65 ((1 ∷ []) ∷ []) (1 ∷ []) ≡ (refused 14 0, both (0 ∷ 0 ∷ []) (9 ∷ 9 ∷ [])))
 
 -- Document 01, "The desk program": the worked example as calls, with room for four parts and six nodes
 unfoldable pub entries : List Call
 entries =
-    registerPart (48 ∷ (48 ∷ (55 ∷ (52 ∷ (49 ∷ [])))))
-    ∷ (registerPart (55 ∷ (52 ∷ (49 ∷ [])))
-    ∷ (registerPart (48 ∷ (48 ∷ (55 ∷ (52 ∷ (49 ∷ [])))))
-    ∷ (registerPart (52 ∷ (48 ∷ (49 ∷ (54 ∷ []))))
-    ∷ (insertKit (1 ∷ (2 ∷ (3 ∷ (1 ∷ [])))) 7
-    ∷ (insertKit (1 ∷ (1 ∷ [])) 9
-    ∷ (insertKit (2 ∷ (1 ∷ [])) 5
-    ∷ (insertKit (1 ∷ (1 ∷ [])) 6
-    ∷ (insertKit (3 ∷ (1 ∷ [])) 7 ∷ []))))))))
+    registerPart (48 ∷ 48 ∷ 55 ∷ 52 ∷ 49 ∷ [])
+    ∷ registerPart (55 ∷ 52 ∷ 49 ∷ [])
+    ∷ registerPart (48 ∷ 48 ∷ 55 ∷ 52 ∷ 49 ∷ [])
+    ∷ registerPart (52 ∷ 48 ∷ 49 ∷ 54 ∷ [])
+    ∷ insertKit (1 ∷ 2 ∷ 3 ∷ 1 ∷ []) 7
+    ∷ insertKit (1 ∷ 1 ∷ []) 9
+    ∷ insertKit (2 ∷ 1 ∷ []) 5
+    ∷ insertKit (1 ∷ 1 ∷ []) 6
+    ∷ insertKit (3 ∷ 1 ∷ []) 7 ∷ []
 
 unfoldable pub later : List Call
 later =
-    anyContaining (3 ∷ (1 ∷ []))
-    ∷ (anyWithin (3 ∷ (1 ∷ []))
-    ∷ (deleteKit (1 ∷ (2 ∷ (3 ∷ (1 ∷ []))))
-    ∷ (insertKit (3 ∷ (2 ∷ (3 ∷ (1 ∷ [])))) 8 ∷ [])))
+    anyContaining (3 ∷ 1 ∷ [])
+    ∷ anyWithin (3 ∷ 1 ∷ [])
+    ∷ deleteKit (1 ∷ 2 ∷ 3 ∷ 1 ∷ [])
+    ∷ insertKit (3 ∷ 2 ∷ 3 ∷ 1 ∷ []) 8 ∷ []
 
 -- the tables after some calls, and the replies
 unfoldable pub desk : List Call → Tables
@@ -100,8 +100,8 @@ replies cs T = map (λ x. x .1) (log cs T)
 -- the replies, what b lists, and the bytes that W writes. Proof: proofs/ShortCases, `desk-example`
 abbrev pub DeskExample : Type 0
 DeskExample =
-    (replies entries (desk []) ≡ done 1 ∷ (done 2 ∷ (refused 9 1 ∷ (done 3 ∷ (done 3 ∷ (done 0 ∷ (done 1 ∷ (refused 9 9 ∷ (refused 10 0 ∷ [])))))))))
-    × (memory (allKits isWithin (1 ∷ (1 ∷ (2 ∷ (4 ∷ [])))) (desk entries) (0 ∷ (0 ∷ (0 ∷ [])))) (0 ∷ (0 ∷ (0 ∷ []))) ≡ 9 ∷ (5 ∷ (0 ∷ [])))
-    × (replies later (desk entries) ≡ done 7 ∷ (done 0 ∷ (done 7 ∷ (refused 4 0 ∷ []))))
+    (replies entries (desk []) ≡ done 1 ∷ done 2 ∷ refused 9 1 ∷ done 3 ∷ done 3 ∷ done 0 ∷ done 1 ∷ refused 9 9 ∷ refused 10 0 ∷ [])
+    × (memory (allKits isWithin (1 ∷ 1 ∷ 2 ∷ 4 ∷ []) (desk entries) (0 ∷ 0 ∷ 0 ∷ [])) (0 ∷ 0 ∷ 0 ∷ []) ≡ 9 ∷ 5 ∷ 0 ∷ [])
+    × (replies later (desk entries) ≡ done 7 ∷ done 0 ∷ done 7 ∷ refused 4 0 ∷ [])
     × (answer (writing (desk (entries ++ later)) (replicate 34 0)) ≡ done 34)
-    × (memory (writing (desk (entries ++ later)) (replicate 34 0)) (replicate 34 0) ≡ 75 ∷ (73 ∷ (84 ∷ (0 ∷ (1 ∷ (0 ∷ (3 ∷ (5 ∷ (48 ∷ (48 ∷ (55 ∷ (52 ∷ (49 ∷ (3 ∷ (55 ∷ (52 ∷ (49 ∷ (4 ∷ (52 ∷ (48 ∷ (49 ∷ (54 ∷ (0 ∷ (2 ∷ (0 ∷ (9 ∷ (1 ∷ (1 ∷ (1 ∷ (0 ∷ (5 ∷ (1 ∷ (2 ∷ (1 ∷ []))))))))))))))))))))))))))))))))))
+    × (memory (writing (desk (entries ++ later)) (replicate 34 0)) (replicate 34 0) ≡ 75 ∷ 73 ∷ 84 ∷ 0 ∷ 1 ∷ 0 ∷ 3 ∷ 5 ∷ 48 ∷ 48 ∷ 55 ∷ 52 ∷ 49 ∷ 3 ∷ 55 ∷ 52 ∷ 49 ∷ 4 ∷ 52 ∷ 48 ∷ 49 ∷ 54 ∷ 0 ∷ 2 ∷ 0 ∷ 9 ∷ 1 ∷ 1 ∷ 1 ∷ 0 ∷ 5 ∷ 1 ∷ 2 ∷ 1 ∷ [])

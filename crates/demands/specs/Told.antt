@@ -28,18 +28,18 @@ unfoldable pub told : ℕ → ℕ → Contents → Call → Reply
 told slots room m emptyBoth = done 0
 told slots room m (registerPart n) = decide
     (given (not (goodNumber n)) 3 0
-    ∷ (given (not (isZero (placeIn n (m .parts)))) 9 (placeIn n (m .parts))
-    ∷ (given (leb slots (length (m .parts))) 12 1 ∷ [])))
+    ∷ given (not (isZero (placeIn n (m .parts)))) 9 (placeIn n (m .parts))
+    ∷ given (leb slots (length (m .parts))) 12 1 ∷ [])
     (length (m .parts) + 1)
-told slots room m (lookUp n) = decide (given (not (goodNumber n)) 3 0 ∷ (given (isZero (placeIn n (m .parts))) 11 0 ∷ [])) (placeIn n (m .parts))
+told slots room m (lookUp n) = decide (given (not (goodNumber n)) 3 0 ∷ given (isZero (placeIn n (m .parts))) 11 0 ∷ []) (placeIn n (m .parts))
 told slots room m (showAt p) = decide (given (isZero p || ltb (length (m .parts)) p) 11 0 ∷ []) 0
 told slots room m (insertKit l t) = decide
     (given (isZero t) 8 0
     ∷ (listFaults (length (m .parts)) l
     ++ (given (ltb mostUnits (length (units l))) 7 0
-    ∷ (given (not (isZero (tagIn (units l) (m .kits)))) 9 (tagIn (units l) (m .kits))
-    ∷ (given (anyb (eqb t) (tagsOf (m .kits))) 10 0
-    ∷ (given (ltb room (nodesNeeded (more m l t))) 12 (nodesNeeded (more m l t) - room) ∷ []))))))
+    ∷ given (not (isZero (tagIn (units l) (m .kits)))) 9 (tagIn (units l) (m .kits))
+    ∷ given (anyb (eqb t) (tagsOf (m .kits))) 10 0
+    ∷ given (ltb room (nodesNeeded (more m l t))) 12 (nodesNeeded (more m l t) - room) ∷ [])))
     (nodesNeeded (more m l t) - nodesNeeded m)
 told slots room m (findKit l) = decide (listFaults (length (m .parts)) l ++ (given (isZero (tagIn (units l) (m .kits))) 11 0 ∷ [])) (tagIn (units l) (m .kits))
 told slots room m (deleteKit l) = decide (listFaults (length (m .parts)) l ++ (given (isZero (tagIn (units l) (m .kits))) 11 0 ∷ [])) (tagIn (units l) (m .kits))

@@ -78,7 +78,7 @@ behind-some : (A : List (List ℕ)) (s : List ℕ) (ss : List (List ℕ)) → (a
 unfolding allButLast lastOf
 behind-some [] s ss = (refl, refl)
 behind-some (a ∷ []) s ss = (refl, refl)
-behind-some (a ∷ (c ∷ A)) s ss = let r = behind-some (c ∷ A) s ss in (ap (_∷_ a) (r .0), r .1)
+behind-some (a ∷ c ∷ A) s ss = let r = behind-some (c ∷ A) s ss in (ap (_∷_ a) (r .0), r .1)
 
 -- the stretches of two lists, one behind the other: those that end in the first, and those of the rest of the first with the second
 joined : (b : ℕ) (s t : List ℕ) → parted b (s ++ t) ≡ allButLast (parted b s) ++ parted b (lastOf (parted b s) ++ t)

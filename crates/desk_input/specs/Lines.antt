@@ -8,12 +8,12 @@ use Rattle.desk_text.specs.Lines.{lineFeed}
 unfoldable pub allButLast : List (List ℕ) → List (List ℕ)
 allButLast [] = []
 allButLast (l ∷ []) = []
-allButLast (l ∷ (m ∷ ms)) = l ∷ allButLast (m ∷ ms)
+allButLast (l ∷ m ∷ ms) = l ∷ allButLast (m ∷ ms)
 
 unfoldable pub lastOf : List (List ℕ) → List ℕ
 lastOf [] = []
 lastOf (l ∷ []) = l
-lastOf (l ∷ (m ∷ ms)) = lastOf (m ∷ ms)
+lastOf (l ∷ m ∷ ms) = lastOf (m ∷ ms)
 
 -- the lines that have a line feed, and what stands behind the last line feed
 unfoldable pub ended : List ℕ → List (List ℕ)

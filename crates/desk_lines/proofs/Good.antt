@@ -24,9 +24,9 @@ unfolding allb filled
 filled-first f fs = refl
 
 module _ (l : List ℕ) (g : goodLine l ≡ true) where
-  sentence : (k : ℕ) → getD (leb 1 (length l) ∷ (leb (length l) longestLine ∷ (allb filled (fieldsOf l) ∷ (goodFields (fieldsOf l) ∷ [])))) k true ≡ true
+  sentence : (k : ℕ) → getD (leb 1 (length l) ∷ leb (length l) longestLine ∷ allb filled (fieldsOf l) ∷ goodFields (fieldsOf l) ∷ []) k true ≡ true
   unfolding goodLine
-  sentence k = every-at (leb 1 (length l) ∷ (leb (length l) longestLine ∷ (allb filled (fieldsOf l) ∷ (goodFields (fieldsOf l) ∷ [])))) k g
+  sentence k = every-at (leb 1 (length l) ∷ leb (length l) longestLine ∷ allb filled (fieldsOf l) ∷ goodFields (fieldsOf l) ∷ []) k g
 
   pub line-some : 1 ≤ length l
   line-some = leb-true 1 (length l) (sentence 0)

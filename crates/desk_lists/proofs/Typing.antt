@@ -21,7 +21,7 @@ use Rattle.desk_lists.specs.Typed.{Typed, typed, stopped, inFrontOf, loo
 use Rattle.desk_lists.specs.Inner.{Pairs, mostWords}
 
 -- two words set, one behind the other
-pub two-set : (l : List ℕ) (at a b : ℕ) → at + 2 ≤ length l → set (set l at a) (at + 1) b ≡ laid l at (a ∷ (b ∷ []))
+pub two-set : (l : List ℕ) (at a b : ℕ) → at + 2 ≤ length l → set (set l at a) (at + 1) b ≡ laid l at (a ∷ b ∷ [])
 two-set l at a b h =
     let n : length (set l at a) ≡ length l = length-set l at a in
     laid-one (set l at a) (at + 1) b (omega arith) ∙ laid-cons l at a (b ∷ []) (omega arith)
@@ -40,9 +40,9 @@ pub joined-all : (l : List ℕ) → joined l (typed []) ≡ typed l
 unfolding joined
 joined-all l = ap typed (append-nil l)
 
-pub joined-more : (l : List ℕ) (p q : ℕ) (t : Typed) → joined l (inFrontOf (done p) q t) ≡ joined (l ++ (p ∷ (q ∷ []))) t
+pub joined-more : (l : List ℕ) (p q : ℕ) (t : Typed) → joined l (inFrontOf (done p) q t) ≡ joined (l ++ (p ∷ q ∷ [])) t
 unfolding joined inFrontOf
-joined-more l p q (typed m) = ap typed (sym (append-assoc l (p ∷ (q ∷ [])) m))
+joined-more l p q (typed m) = ap typed (sym (append-assoc l (p ∷ q ∷ []) m))
 joined-more l p q (stopped n v) = refl
 
 -- a pair of a line: its number, and its quantity
@@ -129,13 +129,13 @@ module _ {R l : List ℕ} {from : ℕ} {old out : List ℕ} {n at : ℕ} (t : Re
       pub pair-room : n + 2 ≤ length out
       pair-room = omega (arith, t .room, t .size, t .large, t .pairs .short, number-some l at r (t .pairs) h e, quantity-some l at r (t .pairs) h e s f, f .high)
 
-      pub reading-on : (x q : ℕ) (new : List ℕ) → answer (lookingUp (fieldAt l at r) R) ≡ done x → q ≡ amountOf (fieldAt l (r + 1) s) → new ≡ laid out n (x ∷ (q ∷ [])) → Reading R l from old new (n + 2) (s + 1)
+      pub reading-on : (x q : ℕ) (new : List ℕ) → answer (lookingUp (fieldAt l at r) R) ≡ done x → q ≡ amountOf (fieldAt l (r + 1) s) → new ≡ laid out n (x ∷ q ∷ []) → Reading R l from old new (n + 2) (s + 1)
       reading-on x q new a b w =
-          let g : take (n + 2) new ≡ take n out ++ (x ∷ (q ∷ [])) = ap (take (n + 2)) w ∙ take-laid out n (x ∷ (q ∷ [])) pair-room in
+          let g : take (n + 2) new ≡ take n out ++ (x ∷ q ∷ []) = ap (take (n + 2)) w ∙ take-laid out n (x ∷ q ∷ []) pair-room in
           record {
             pairs = pairs-next l at r (t .pairs) h e s f;
             room = omega (arith, t .room, number-some l at r (t .pairs) h e, quantity-some l at r (t .pairs) h e s f);
-            size = ap length w ∙ length-laid out n (x ∷ (q ∷ [])) pair-room ∙ t .size;
+            size = ap length w ∙ length-laid out n (x ∷ q ∷ []) pair-room ∙ t .size;
             large = t .large;
             whole =
                 ap (λ m. joined m (lookedUp R (fieldsFrom l (s + 1)))) g

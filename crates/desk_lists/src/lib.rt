@@ -18,7 +18,7 @@ use register::look_up_in;
 // Sets a place and a quantity down.
 fn put_pair(list: &mut [u16], at: usize, place: u16, quantity: u16)
     requires { ⌜ at + 2 ≤ length (now list) ⌝ }
-    ensures { λ _. ⌜ now (list .exit) ≡ laid (now (list .entry)) at (place ∷ (quantity ∷ [])) ⌝ }
+    ensures { λ _. ⌜ now (list .exit) ≡ laid (now (list .entry)) at (place ∷ quantity ∷ []) ⌝ }
 {
     list[at] = place;
     list[at + 1] = quantity;

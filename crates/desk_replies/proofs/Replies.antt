@@ -101,7 +101,7 @@ module _ (l : List ℕ) (i : ℕ) where
   unfolding tagsOf
   tags-end h = rw (drop-of-length-le l h)
 
-  pub hex-step : i < length l → hexOf (drop i l) ≡ hexDigit (getD l i 0 / 16) ∷ (hexDigit (getD l i 0 % 16) ∷ hexOf (drop (i + 1) l))
+  pub hex-step : i < length l → hexOf (drop i l) ≡ hexDigit (getD l i 0 / 16) ∷ hexDigit (getD l i 0 % 16) ∷ hexOf (drop (i + 1) l)
   unfolding hexOf
   hex-step h = rw (add-one, drop-cons l i 0 h)
 
@@ -111,7 +111,7 @@ module _ (l : List ℕ) (i : ℕ) where
 
 -- the head of a reply, piece by piece
 module _ (o : List ℕ) (letter n v : ℕ) (h : length (replyHead letter n v) ≤ length o) where
-  pub head-start : Rest o 0 (replyHead letter n v) o 0 (letter ∷ (space ∷ (decimal n ++ (space ∷ decimal v))))
+  pub head-start : Rest o 0 (replyHead letter n v) o 0 (letter ∷ space ∷ (decimal n ++ (space ∷ decimal v)))
   unfolding replyHead
   head-start = rest-start o 0 (replyHead letter n v) (omega arith)
 

@@ -24,7 +24,7 @@ hexDigit d = cond (ltb d 10) (zeroDigit + d) (55 + d)
 
 unfoldable pub hexOf : List ℕ → List ℕ
 hexOf [] = []
-hexOf (b ∷ bs) = hexDigit (b / 16) ∷ (hexDigit (b % 16) ∷ hexOf bs)
+hexOf (b ∷ bs) = hexDigit (b / 16) ∷ hexDigit (b % 16) ∷ hexOf bs
 
 -- tags, each behind a space
 unfoldable pub tagsOf : List ℕ → List ℕ
@@ -33,7 +33,7 @@ tagsOf (t ∷ ts) = (space ∷ decimal t) ++ tagsOf ts
 
 -- "letter, number, value"
 unfoldable pub replyHead : ℕ → ℕ → ℕ → List ℕ
-replyHead letter number value = letter ∷ (space ∷ (decimal number ++ (space ∷ decimal value)))
+replyHead letter number value = letter ∷ space ∷ (decimal number ++ (space ∷ decimal value))
 
 -- "A reply line is letter, number, value, then" the rest; "every reply ends in a line feed"
 unfoldable pub replyLine : ℕ → ℕ → ℕ → List ℕ → List ℕ
@@ -41,7 +41,7 @@ replyLine letter number value rest = replyHead letter number value ++ (rest ++ (
 
 -- "Other lines answer `?`"
 abbrev pub otherLine : List ℕ
-otherLine = 63 ∷ (lineFeed ∷ [])
+otherLine = 63 ∷ lineFeed ∷ []
 
 -- bs were set down in an output from a position on, and r is the position behind them
 pub record Put (old : List ℕ) (at : ℕ) (bs : List ℕ) (r : ℕ) (new : List ℕ) : Type 0 where

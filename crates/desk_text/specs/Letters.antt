@@ -39,4 +39,4 @@ writes = 87
 
 -- the letters that take a list alone
 abbrev pub takesList : List ℕ
-takesList = finds ∷ (deletes ∷ (anyWithin ∷ (anyContaining ∷ (allWithin ∷ (allContaining ∷ [])))))
+takesList = finds ∷ deletes ∷ anyWithin ∷ anyContaining ∷ allWithin ∷ allContaining ∷ []

@@ -33,7 +33,7 @@ filled f = leb 1 (length f)
 unfoldable pub goodPairs : List (List ℕ) → Bool
 goodPairs [] = true
 goodPairs (n ∷ []) = false
-goodPairs (n ∷ (q ∷ fs)) = goodAmount q && goodPairs fs
+goodPairs (n ∷ q ∷ fs) = goodAmount q && goodPairs fs
 
 -- "tag, then number and quantity pairs"
 unfoldable pub goodKit : List (List ℕ) → Bool
@@ -57,6 +57,6 @@ goodFields (f ∷ fs) = eqb (length f) 1 && goodBehind (getD f 0 0) fs
 unfoldable pub goodLine : List ℕ → Bool
 goodLine l =
     every (leb 1 (length l)
-    ∷ (leb (length l) longestLine
-    ∷ (allb filled (fieldsOf l)
-    ∷ (goodFields (fieldsOf l) ∷ []))))
+    ∷ leb (length l) longestLine
+    ∷ allb filled (fieldsOf l)
+    ∷ goodFields (fieldsOf l) ∷ [])

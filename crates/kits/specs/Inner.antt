@@ -20,13 +20,13 @@ use Rattle.kits.specs.declared.Compared.the-variants.{Before, Same, Afte
 unfoldable pub quantity : List ℕ → ℕ → ℕ
 quantity [] p = 0
 quantity (x ∷ []) p = 0
-quantity (x ∷ (q ∷ l)) p = cond (eqb p x) q 0 + quantity l p
+quantity (x ∷ q ∷ l) p = cond (eqb p x) q 0 + quantity l p
 
 -- a set: "a kit with every quantity 1"
 unfoldable pub oneEach : List ℕ → Bool
 oneEach [] = true
 oneEach (p ∷ []) = true
-oneEach (p ∷ (q ∷ l)) = eqb q 1 && oneEach l
+oneEach (p ∷ q ∷ l) = eqb q 1 && oneEach l
 
 -- a row begins another
 unfoldable pub begins : List ℕ → List ℕ → Bool

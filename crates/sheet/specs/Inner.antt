@@ -19,19 +19,19 @@ headBytes = 7
 
 -- Contents that fit the format: good numbers, none twice; good kits with n parts, in listing order, no tag twice
 unfoldable pub goodKit : ℕ → Kit → Bool
-goodKit n k = every (leb 1 (k .tag) ∷ (ltb (k .tag) twoLimit ∷ (goodList n (listOf (k .row)) ∷ (leb (length (k .row)) mostUnits ∷ []))))
+goodKit n k = every (leb 1 (k .tag) ∷ ltb (k .tag) twoLimit ∷ goodList n (listOf (k .row)) ∷ leb (length (k .row)) mostUnits ∷ [])
 
 unfoldable pub rising : List Kit → Bool
 rising [] = true
 rising (k ∷ []) = true
-rising (k ∷ (l ∷ ks)) = before (k .row) (l .row) && rising (l ∷ ks)
+rising (k ∷ l ∷ ks) = before (k .row) (l .row) && rising (l ∷ ks)
 
 unfoldable pub fitting : Contents → Bool
 fitting c = every
     (leb (length (c .parts)) mostParts
-    ∷ (allb goodNumber (c .parts)
-    ∷ (distinct eqList (c .parts)
-    ∷ (ltb (length (c .kits)) twoLimit
-    ∷ (allb (goodKit (length (c .parts))) (c .kits)
-    ∷ (distinct eqb (tagsOf (c .kits))
-    ∷ (rising (c .kits) ∷ [])))))))
+    ∷ allb goodNumber (c .parts)
+    ∷ distinct eqList (c .parts)
+    ∷ ltb (length (c .kits)) twoLimit
+    ∷ allb (goodKit (length (c .parts))) (c .kits)
+    ∷ distinct eqb (tagsOf (c .kits))
+    ∷ rising (c .kits) ∷ [])

@@ -21,7 +21,7 @@ use Rattle.shortfalls.specs.declared.Passed.{Passed}
 unfoldable pub linesShort : List ℕ → List ℕ → ℕ
 linesShort bin [] = 0
 linesShort bin (p ∷ []) = 0
-linesShort bin (p ∷ (q ∷ l)) = (q - quantity bin p) + linesShort bin l
+linesShort bin (p ∷ q ∷ l) = (q - quantity bin p) + linesShort bin l
 
 ------------------------------------------------------------------------
 -- A shortfall label by label: the bin's quantities by place are Q

@@ -25,7 +25,7 @@ pub down-same : {l m xs ys : List ℕ} {r : ℕ} → SetDown l m xs r → xs ≡
 down-same d e = record { ends = rw (← e) (d .ends); is = rw (← e) (d .is) }
 
 -- two bytes
-pub down-two : (l : List ℕ) (x y : ℕ) → 2 ≤ length l → SetDown l (set (set l 0 x) 1 y) (x ∷ (y ∷ [])) 2
+pub down-two : (l : List ℕ) (x y : ℕ) → 2 ≤ length l → SetDown l (set (set l 0 x) 1 y) (x ∷ y ∷ []) 2
 down-two l x y h = record {
   ends = refl;
   is = laid-one (set l 0 x) 1 y (rw length-set (omega arith)) ∙ laid-cons l 0 x (y ∷ []) (omega arith);

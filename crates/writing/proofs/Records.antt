@@ -116,7 +116,7 @@ unfolding linesFrom
 few-from p q [] = omega arith
 few-from p q (x ∷ us) = go (eqb x p) (few-from p (suc q) us) (few-from x 1 us)
   where
-    go : (t : Bool) → length (linesFrom p (suc q) us) ≤ 2 + 2 * length us → length (linesFrom x 1 us) ≤ 2 + 2 * length us → length (cond t (linesFrom p (suc q) us) (p ∷ (q ∷ linesFrom x 1 us))) ≤ 2 + 2 * suc (length us)
+    go : (t : Bool) → length (linesFrom p (suc q) us) ≤ 2 + 2 * length us → length (linesFrom x 1 us) ≤ 2 + 2 * length us → length (cond t (linesFrom p (suc q) us) (p ∷ q ∷ linesFrom x 1 us)) ≤ 2 + 2 * suc (length us)
     go true a b = omega arith
     go false a b = omega arith
 

@@ -32,7 +32,7 @@ unfolding putKit
 put-bytes w k [] = refl
 put-bytes w k (x ∷ ks) = go (before (k .row) (x .row)) (put-bytes w k ks)
   where
-    go : (t : Bool) → length (recordItems w (putKit k ks)) ≡ length (recordItems w (k ∷ ks)) → length (recordItems w (cond t (k ∷ (x ∷ ks)) (x ∷ putKit k ks))) ≡ length (recordItems w (k ∷ (x ∷ ks)))
+    go : (t : Bool) → length (recordItems w (putKit k ks)) ≡ length (recordItems w (k ∷ ks)) → length (recordItems w (cond t (k ∷ x ∷ ks) (x ∷ putKit k ks))) ≡ length (recordItems w (k ∷ x ∷ ks))
     go true e = refl
     go false e = omega (arith, bytes-of w x (putKit k ks), bytes-of w k (x ∷ ks), bytes-of w x ks, bytes-of w k ks)
 
@@ -46,7 +46,7 @@ unfolding putKit
 put-more k [] = refl
 put-more k (x ∷ ks) = go (before (k .row) (x .row)) (put-more k ks)
   where
-    go : (t : Bool) → length (putKit k ks) ≡ 1 + length ks → length (cond t (k ∷ (x ∷ ks)) (x ∷ putKit k ks)) ≡ 1 + length (x ∷ ks)
+    go : (t : Bool) → length (putKit k ks) ≡ 1 + length ks → length (cond t (k ∷ x ∷ ks) (x ∷ putKit k ks)) ≡ 1 + length (x ∷ ks)
     go true e = omega arith
     go false e = omega arith
 
