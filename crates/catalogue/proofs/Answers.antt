@@ -1,4 +1,5 @@
--- What each call answers, refusal by refusal, once what it is lent was checked: the promise of the work behind the checks, put behind the refusals that passed.
+-- What each call answers, refusal by refusal, once what it is lent was checked: the promise of the work behind the checks, put behind the
+-- refusals that passed.
 use mathlib.Core.Path.{_≡_, refl, sym, ap, _∙_}
 use mathlib.Core.Logic.{_≢_}
 use mathlib.Core.Bool.{Bool, true, false}
@@ -11,7 +12,8 @@ use borrow.Author.Tests.{leb-true, leb-false, lt-ltb, le-ltb, eq-eqb, ne-eqb}
 use Rattle.ground.specs.Lists.{isZero}
 use Rattle.ground.specs.Laid.{zeroed}
 use Rattle.ground.specs.Calls.{Case, given, plan, Reply, done, refused, isRefused, decide, answer, Promise, setDown, Both, setBoth}
-use Rattle.ground.proofs.Calls.{promise-first, promise-front, promise-behind, promise-part, promise-refused, promise-done, first-refuses, first-passes, whole-refuses, whole-passes, set-down-behind, set-both-behind}
+use Rattle.ground.proofs.Calls.{promise-first, promise-front, promise-behind, promise-part, promise-refused, promise-done, first-refuses}
+use Rattle.ground.proofs.Calls.{first-passes, whole-refuses, whole-passes, set-down-behind, set-both-behind}
 use Rattle.kits.specs.Kits.{mostUnits, mostPlace, units, goodList, listFaults}
 use Rattle.kits.specs.Inner.{GoodRow, rowOf, unitsIn}
 use Rattle.kits.specs.declared.Row.{Row}
@@ -55,13 +57,16 @@ at-once b n v ds w e = rw e
 
 module _ (R N : List ℕ) where
   -- Emptying
-  pub empty-refused : (r : Reply) → r ≡ decide (lengths (tables R N)) 0 → isRefused r ≡ true → Promise (emptying (tables R N)) (tables R N) r (tables R N)
+  pub empty-refused : (r : Reply) → r ≡ decide (lengths (tables R N)) 0 → isRefused r ≡ true →
+      Promise (emptying (tables R N)) (tables R N) r (tables R N)
   unfolding emptying answer
   empty-refused r is e = promise-first (emptying (tables R N)) (tables R N) r e is
 
-  pub empty-done : (r : Reply) (R′ N′ : List ℕ) → r ≡ decide (lengths (tables R N)) 0 → isRefused r ≡ false → R′ ≡ zeroed R → N′ ≡ zeroed N → Promise (emptying (tables R N)) (tables R N) (done 0) (tables R′ N′)
+  pub empty-done : (r : Reply) (R′ N′ : List ℕ) → r ≡ decide (lengths (tables R N)) 0 → isRefused r ≡ false → R′ ≡ zeroed R →
+      N′ ≡ zeroed N → Promise (emptying (tables R N)) (tables R N) (done 0) (tables R′ N′)
   unfolding emptying answer
-  empty-done r R′ N′ is e f g = rw (f, g) (promise-done (emptying (tables R N)) (tables R N) 0 _ (whole-passes r (lengths (tables R N)) 0 0 is e) refl)
+  empty-done r R′ N′ is e f g =
+      rw (f, g) (promise-done (emptying (tables R N)) (tables R N) 0 _ (whole-passes r (lengths (tables R N)) 0 0 is e) refl)
 
   -- Reading a sheet
   module _ (s : List ℕ) (r : Reply) (is : r ≡ decide (lengths (tables R N)) 0) where
@@ -69,23 +74,29 @@ module _ (R N : List ℕ) where
     unfolding reading
     read-refused e = promise-front (lengths (tables R N)) _ _ _ (tables R N) r 0 is e
 
-    pub read-done : (p : Reply) (T′ : Tables) → isRefused r ≡ false → Promise (filling.reading s (tables R N)) (tables R N) p T′ → Promise (reading s (tables R N)) (tables R N) p T′
+    pub read-done : (p : Reply) (T′ : Tables) → isRefused r ≡ false → Promise (filling.reading s (tables R N)) (tables R N) p T′ →
+        Promise (reading s (tables R N)) (tables R N) p T′
     unfolding reading filling.reading
     read-done p T′ e i = promise-behind (lengths (tables R N)) _ _ _ (tables R N) p T′ 0 (ap isRefused (sym is) ∙ e) i
 
   -- Writing the sheet
-  pub write-refused : (o : List ℕ) (r : Reply) → r ≡ decide (lentBoth (tables R N)) 0 → isRefused r ≡ true → Promise (writing (tables R N) o) o r o
+  pub write-refused : (o : List ℕ) (r : Reply) → r ≡ decide (lentBoth (tables R N)) 0 → isRefused r ≡ true →
+      Promise (writing (tables R N) o) o r o
   unfolding writing setDown
   write-refused o r is e = promise-front (lentBoth (tables R N)) _ _ _ o r 0 is e
 
-  pub write-done : (o w : List ℕ) (r q : Reply) → r ≡ decide (lentBoth (tables R N)) 0 → isRefused r ≡ false → Promise (sheet.writing (contents (tables R N)) o) o q w → Promise (writing (tables R N) o) o q w
+  pub write-done : (o w : List ℕ) (r q : Reply) → r ≡ decide (lentBoth (tables R N)) 0 → isRefused r ≡ false →
+      Promise (sheet.writing (contents (tables R N)) o) o q w → Promise (writing (tables R N) o) o q w
   unfolding writing sheet.writing
   write-done o w r q is e p = set-down-behind (lentBoth (tables R N)) 0 (encode (contents (tables R N))) o (whole-passes r _ 0 0 is e) p
 
   module _ (l : List ℕ) where
     -- "A list of more than 64 units is .. simply not held"
     pub long-not-held : Sound mostPlace N → leb (length (units l)) mostUnits ≡ false → tagIn (units l) (held N) ≡ 0
-    long-not-held s h = tag-none (units l) (held N) (λ k m e. absurd (let g = held-good (s .shape) k m .short in let z = leb-false (length (units l)) mostUnits h in let y = ap length e in omega arith))
+    long-not-held s h =
+        tag-none (units l) (held N)
+        (λ k m e. absurd (let g = held-good (s .shape) k m .short in let z = leb-false (length (units l)) mostUnits h in let y = ap length
+        e in omega arith))
 
     missing : (v : ℕ) → tagIn (units l) (held N) ≡ 0 → decide (missingRefusals (units l) N) v ≡ refused 11 0
     unfolding missingRefusals
@@ -97,9 +108,11 @@ module _ (R N : List ℕ) where
       unfolding finding answer
       find-refused e = first-refuses r _ _ 0 _ is e
 
-      pub find-long : isRefused r ≡ false → Sound mostPlace N → leb (length (units l)) mostUnits ≡ false → refused 11 0 ≡ answer (finding l (tables R N))
+      pub find-long : isRefused r ≡ false → Sound mostPlace N → leb (length (units l)) mostUnits ≡ false →
+          refused 11 0 ≡ answer (finding l (tables R N))
       unfolding finding answer
-      find-long e s h = sym (first-passes r (lentList (tables R N) l) (missingRefusals (units l) N) 0 _ is e ∙ missing _ (long-not-held s h))
+      find-long e s h =
+          sym (first-passes r (lentList (tables R N) l) (missingRefusals (units l) N) 0 _ is e ∙ missing _ (long-not-held s h))
 
       pub find-done : (us : List ℕ) → isRefused r ≡ false → us ≡ units l → answer (findingRow us N) ≡ answer (finding l (tables R N))
       unfolding finding findingRow answer
@@ -110,13 +123,19 @@ module _ (R N : List ℕ) where
       unfolding deleting
       delete-refused e = promise-front (lentList (tables R N) l) _ _ _ (tables R N) r 0 is e
 
-      pub delete-long : isRefused r ≡ false → Sound mostPlace N → leb (length (units l)) mostUnits ≡ false → Promise (deleting l (tables R N)) (tables R N) (refused 11 0) (tables R N)
+      pub delete-long : isRefused r ≡ false → Sound mostPlace N → leb (length (units l)) mostUnits ≡ false →
+          Promise (deleting l (tables R N)) (tables R N) (refused 11 0) (tables R N)
       unfolding deleting answer
-      delete-long e s h = promise-behind (lentList (tables R N) l) (missingRefusals (units l) N) _ _ (tables R N) _ _ 0 (ap isRefused (sym is) ∙ e) (promise-refused (plan (missingRefusals (units l) N) _ _) (tables R N) 11 0 (missing _ (long-not-held s h)))
+      delete-long e s h =
+          promise-behind (lentList (tables R N) l) (missingRefusals (units l) N) _ _ (tables R N) _ _ 0 (ap isRefused (sym is) ∙ e)
+          (promise-refused (plan (missingRefusals (units l) N) _ _) (tables R N) 11 0 (missing _ (long-not-held s h)))
 
-      pub delete-done : (us : List ℕ) (q : Reply) (N′ : List ℕ) → isRefused r ≡ false → us ≡ units l → Promise (deletingRow us N) N q N′ → Promise (deleting l (tables R N)) (tables R N) q (tables R N′)
+      pub delete-done : (us : List ℕ) (q : Reply) (N′ : List ℕ) → isRefused r ≡ false → us ≡ units l → Promise (deletingRow us N) N q N′ →
+          Promise (deleting l (tables R N)) (tables R N) q (tables R N′)
       unfolding deleting deletingRow
-      delete-done us q N′ e row p = promise-behind (lentList (tables R N) l) (missingRefusals (units l) N) _ _ (tables R N) _ _ 0 (ap isRefused (sym is) ∙ e) (promise-part (tables R) (deletingRow (units l) N) N q N′ (rw row at p))
+      delete-done us q N′ e row p =
+          promise-behind (lentList (tables R N) l) (missingRefusals (units l) N) _ _ (tables R N) _ _ 0 (ap isRefused (sym is) ∙ e)
+          (promise-part (tables R) (deletingRow (units l) N) N q N′ (rw row at p))
 
       -- The questions
       module _ (question : List ℕ → Kit → Bool) where
@@ -132,7 +151,8 @@ module _ (R N : List ℕ) where
         unfolding allKits setDown
         all-refused o e = promise-front (lentList (tables R N) l) _ _ _ o r 0 is e
 
-        pub all-done : (o w : List ℕ) (q : Reply) → isRefused r ≡ false → Promise (setDown [] (allOf question l N) o) o q w → Promise (allKits question l (tables R N) o) o q w
+        pub all-done : (o w : List ℕ) (q : Reply) → isRefused r ≡ false → Promise (setDown [] (allOf question l N) o) o q w →
+            Promise (allKits question l (tables R N) o) o q w
         unfolding allKits
         all-done o w q e p = set-down-behind (lentList (tables R N) l) 0 (allOf question l N) o (whole-passes r _ 0 0 is e) p
 
@@ -147,16 +167,19 @@ module _ (R N : List ℕ) where
 
         pub almost-too-far : isRefused r ≡ false → mostShort < d → Promise (almostKits d l (tables R N) o) o (refused 14 0) o
         unfolding almostKits setBoth answer
-        almost-too-far e h = rw append-assoc (promise-behind (lentList (tables R N) l) _ _ _ o (refused 14 0) o 0 (ap isRefused (sym is) ∙ e)
+        almost-too-far e h =
+            rw append-assoc (promise-behind (lentList (tables R N) l) _ _ _ o (refused 14 0) o 0 (ap isRefused (sym is) ∙ e)
             (promise-refused (plan _ _ _) o 14 0 (at-once (ltb mostShort d) 14 0 _ _ (lt-ltb mostShort d h))))
 
         near-passes : isRefused r ≡ false → d ≤ mostShort → decide (lentList (tables R N) l ++ tooFar) 0 ≡ done 0
         unfolding decide
         near-passes e h = first-passes r (lentList (tables R N) l) tooFar 0 0 is e ∙ rw (le-ltb mostShort d h)
 
-        pub almost-done : (q : Reply) (m : Both) → isRefused r ≡ false → d ≤ mostShort → Promise (listAlmost [] d l N o) o q m → Promise (almostKits d l (tables R N) o) o q m
+        pub almost-done : (q : Reply) (m : Both) → isRefused r ≡ false → d ≤ mostShort → Promise (listAlmost [] d l N o) o q m →
+            Promise (almostKits d l (tables R N) o) o q m
         unfolding almostKits
-        almost-done q m e h p = set-both-behind (lentList (tables R N) l ++ tooFar) 0 (almostTags d l N) (almostShorts d l N) o (near-passes e h) p
+        almost-done q m e h p =
+            set-both-behind (lentList (tables R N) l ++ tooFar) 0 (almostTags d l N) (almostShorts d l N) o (near-passes e h) p
 
     -- Inserting
     module _ (t : ℕ) (r : Reply) (is : r ≡ decide (lentBoth (tables R N)) 0) where
@@ -166,7 +189,11 @@ module _ (R N : List ℕ) where
 
       module _ (e : isRefused r ≡ false) where
         -- behind the checks of the tables
-        behind-both : (s : Reply) (T′ : Tables) → Promise (plan (given (isZero t) 8 0 ∷ (listFaults (partCount (tables R N)) l ++ (given (ltb mostUnits (length (units l))) 7 0 ∷ entryRefusals (units l) t N))) (lacks N 0 (units l)) (tables R (enter N 0 (units l) t))) (tables R N) s T′ → Promise (inserting l t (tables R N)) (tables R N) s T′
+        behind-both : (s : Reply) (T′ : Tables) →
+            Promise (plan (given (isZero t) 8
+            0 ∷ (listFaults (partCount (tables R N)) l ++ (given (ltb mostUnits (length (units l))) 7 0 ∷ entryRefusals (units l) t N)))
+            (lacks N 0 (units l)) (tables R (enter N 0 (units l) t))) (tables R N) s T′ →
+            Promise (inserting l t (tables R N)) (tables R N) s T′
         unfolding inserting
         behind-both s T′ p = promise-behind (lentBoth (tables R N)) _ _ _ (tables R N) s T′ 0 (ap isRefused (sym is) ∙ e) p
 
@@ -175,21 +202,41 @@ module _ (R N : List ℕ) where
         insert-no-tag z = behind-both _ _ (promise-refused (plan _ _ _) (tables R N) 8 0 (at-once (isZero t) 8 0 _ _ (eq-eqb t 0 z)))
 
         module _ (some : t ≢ 0) where
-          behind-tag : (s : Reply) (T′ : Tables) → Promise (plan (listFaults (partCount (tables R N)) l ++ (given (ltb mostUnits (length (units l))) 7 0 ∷ entryRefusals (units l) t N)) (lacks N 0 (units l)) (tables R (enter N 0 (units l) t))) (tables R N) s T′ → Promise (inserting l t (tables R N)) (tables R N) s T′
-          behind-tag s T′ p = behind-both s T′ (promise-behind (given (isZero t) 8 0 ∷ []) _ _ _ (tables R N) s T′ 0 (alone (isZero t) 8 0 (ne-eqb t 0 some)) p)
+          behind-tag : (s : Reply) (T′ : Tables) →
+              Promise (plan (listFaults (partCount (tables R N)) l
+              ++ (given (ltb mostUnits (length (units l))) 7 0 ∷ entryRefusals (units l) t N)) (lacks N 0 (units l))
+              (tables R (enter N 0 (units l) t))) (tables R N) s T′ →
+              Promise (inserting l t (tables R N)) (tables R N) s T′
+          behind-tag s T′ p =
+              behind-both s T′ (promise-behind (given (isZero t) 8 0 ∷ []) _ _ _ (tables R N) s T′ 0
+              (alone (isZero t) 8 0 (ne-eqb t 0 some)) p)
 
           module _ (q : Reply) (typed : q ≡ decide (listFaults (partCount (tables R N)) l) 0) where
             pub insert-mistyped : isRefused q ≡ true → Promise (inserting l t (tables R N)) (tables R N) q (tables R N)
             insert-mistyped f = behind-tag _ _ (promise-front (listFaults (partCount (tables R N)) l) _ _ _ (tables R N) q 0 typed f)
 
             module _ (f : isRefused q ≡ false) where
-              behind-list : (s : Reply) (T′ : Tables) → Promise (plan (given (ltb mostUnits (length (units l))) 7 0 ∷ entryRefusals (units l) t N) (lacks N 0 (units l)) (tables R (enter N 0 (units l) t))) (tables R N) s T′ → Promise (inserting l t (tables R N)) (tables R N) s T′
-              behind-list s T′ p = behind-tag s T′ (promise-behind (listFaults (partCount (tables R N)) l) _ _ _ (tables R N) s T′ 0 (ap isRefused (sym typed) ∙ f) p)
+              behind-list : (s : Reply) (T′ : Tables) →
+                  Promise (plan (given (ltb mostUnits (length (units l))) 7 0 ∷ entryRefusals (units l) t N) (lacks N 0 (units l))
+                  (tables R (enter N 0 (units l) t))) (tables R N) s T′ →
+                  Promise (inserting l t (tables R N)) (tables R N) s T′
+              behind-list s T′ p =
+                  behind-tag s T′ (promise-behind (listFaults (partCount (tables R N)) l) _ _ _ (tables R N) s T′ 0
+                  (ap isRefused (sym typed) ∙ f) p)
 
-              pub insert-too-many : leb (length (units l)) mostUnits ≡ false → Promise (inserting l t (tables R N)) (tables R N) (refused 7 0) (tables R N)
+              pub insert-too-many : leb (length (units l)) mostUnits ≡ false →
+                  Promise (inserting l t (tables R N)) (tables R N) (refused 7 0) (tables R N)
               unfolding answer
-              insert-too-many h = behind-list _ _ (promise-refused (plan _ _ _) (tables R N) 7 0 (at-once (ltb mostUnits (length (units l))) 7 0 _ _ (lt-ltb mostUnits (length (units l)) (leb-false (length (units l)) mostUnits h))))
+              insert-too-many h =
+                  behind-list _ _ (promise-refused (plan _ _ _) (tables R N) 7 0
+                  (at-once (ltb mostUnits (length (units l))) 7 0 _ _
+                  (lt-ltb mostUnits (length (units l)) (leb-false (length (units l)) mostUnits h))))
 
-              pub insert-done : (us : List ℕ) (p : Reply) (N′ : List ℕ) → leb (length (units l)) mostUnits ≡ true → us ≡ units l → Promise (insertingRow us t N) N p N′ → Promise (inserting l t (tables R N)) (tables R N) p (tables R N′)
+              pub insert-done : (us : List ℕ) (p : Reply) (N′ : List ℕ) → leb (length (units l)) mostUnits ≡ true → us ≡ units l →
+                  Promise (insertingRow us t N) N p N′ → Promise (inserting l t (tables R N)) (tables R N) p (tables R N′)
               unfolding insertingRow
-              insert-done us p N′ h row i = behind-list _ _ (promise-behind (given (ltb mostUnits (length (units l))) 7 0 ∷ []) _ _ _ (tables R N) p (tables R N′) 0 (alone (ltb mostUnits (length (units l))) 7 0 (le-ltb mostUnits (length (units l)) (leb-true (length (units l)) mostUnits h))) (promise-part (tables R) (insertingRow (units l) t N) N p N′ (rw row at i)))
+              insert-done us p N′ h row i =
+                  behind-list _ _ (promise-behind (given (ltb mostUnits (length (units l))) 7 0 ∷ []) _ _ _ (tables R N) p (tables R N′) 0
+                  (alone (ltb mostUnits (length (units l))) 7 0
+                  (le-ltb mostUnits (length (units l)) (leb-true (length (units l)) mostUnits h)))
+                  (promise-part (tables R) (insertingRow (units l) t N) N p N′ (rw row at i)))

@@ -100,8 +100,11 @@ module _ (cs : List Case) (bin : List ℕ) (ks : List Kit) (o p : List ℕ) (f :
       let t = tags-long ks in
       let s = shorts-long bin ks in
       let u : laid o 0 (tagsOf ks) ≡ tagsOf ks ++ drop (length ks) o = laid-front o (tagsOf ks) ∙ ap (λ n. tagsOf ks ++ drop n o) t in
-      let v : laid p 0 (shortsOf bin ks) ≡ shortsOf bin ks ++ drop (length ks) p = laid-front p (shortsOf bin ks) ∙ ap (λ n. shortsOf bin ks ++ drop n p) s in
-      rw (← u, ← v, ← t) (set-both-behind cs 0 (tagsOf ks) (shortsOf bin ks) (both o p) e (set-both-done (tagsOf ks) (shortsOf bin ks) (both o p) (omega arith)))
+      let v : laid p 0 (shortsOf bin ks) ≡ shortsOf bin ks ++ drop (length ks) p = laid-front p (shortsOf bin ks) ∙ ap
+      (λ n. shortsOf bin ks ++ drop n p) s in
+      rw (← u, ← v, ← t)
+      (set-both-behind cs 0 (tagsOf ks) (shortsOf bin ks) (both o p) e
+      (set-both-done (tagsOf ks) (shortsOf bin ks) (both o p) (omega arith)))
 
 near-enough : (cs : List Case) (d : ℕ) → decide cs 0 ≡ done 0 → d ≤ mostShort → decide (cs ++ tooFar d) 0 ≡ done 0
 unfolding decide

@@ -22,12 +22,14 @@ use Rattle.sheet.specs.Sheet.{Contents}
 use Rattle.lent.specs.Lent.{Tables, partCount, lentBoth, lentList}
 use Rattle.lent.proofs.Lent.{both-good}
 use Rattle.catalogue.specs.Calls.{contents, anyKit, allKits}
-use Rattle.catalogue.specs.Demands.{Question, entered, HasWhatWasEntered, listedIn, answering, AnsweringFits, AnsweringContains, AnsweringInOrder, AnyAnswers, NoneAnswers, AllAnswers, listingOf}
+use Rattle.catalogue.specs.Demands.{Question, entered, HasWhatWasEntered, listedIn, answering, AnsweringFits, AnsweringContains}
+use Rattle.catalogue.specs.Demands.{AnsweringInOrder, AnyAnswers, NoneAnswers, AllAnswers, listingOf}
 use Rattle.demands.proofs.Questions.{within-asks, containing-asks, in-order}
 use Rattle.demands.proofs.Brought.{Brought, brought}
 
 -- the kits that answer
-module _ (question : Question) (Asks : List ℕ → Kit → Type 0) (asks : (u : List ℕ) (k : Kit) → (question u k ≡ true) ↔ Asks u k) (l : List ℕ) (m : Contents) where
+module _ (question : Question) (Asks : List ℕ → Kit → Type 0) (asks : (u : List ℕ) (k : Kit) → (question u k ≡ true) ↔ Asks u k)
+    (l : List ℕ) (m : Contents) where
   pub answers-exactly : (k : Kit) → List·Memᴰ k (answering question l m) ↔ (List·Memᴰ k (m .kits) × Asks (units l) k)
   unfolding answering
   answers-exactly k = (
@@ -87,15 +89,21 @@ module _ {T : Tables} {m : Contents} (b : Brought T m) where
 
     pub any-answer : answer (anyKit question l T) ≡ decide (listFaults (length (m .parts)) l) (firstTag (answering question l m))
     unfolding answer anyKit lentList anyOf
-    any-answer = let f = the-fitting in let g = the-faults in rw (f, g) (behind-tables (listFaults (length (m .parts)) l) (firstTag (answering question l m)))
+    any-answer =
+        let f = the-fitting in
+        let g = the-faults in rw (f, g) (behind-tables (listFaults (length (m .parts)) l) (firstTag (answering question l m)))
 
     pub all-answer : (o : List ℕ) → answer (allKits question l T o) ≡ answer (listingOf question l m o)
     unfolding allKits lentList allOf
-    all-answer o = let f = the-fitting in let g = the-faults in rw (f, g) (down-answer (listFaults (length (m .parts)) l) (tagsOf (answering question l m)) o)
+    all-answer o =
+        let f = the-fitting in
+        let g = the-faults in rw (f, g) (down-answer (listFaults (length (m .parts)) l) (tagsOf (answering question l m)) o)
 
     pub all-memory : (o : List ℕ) → memory (allKits question l T o) o ≡ memory (listingOf question l m o) o
     unfolding allKits lentList allOf
-    all-memory o = let f = the-fitting in let g = the-faults in rw (f, g) (down-memory (listFaults (length (m .parts)) l) (tagsOf (answering question l m)) o)
+    all-memory o =
+        let f = the-fitting in
+        let g = the-faults in rw (f, g) (down-memory (listFaults (length (m .parts)) l) (tagsOf (answering question l m)) o)
 
 pub has-what-was-entered : HasWhatWasEntered
 has-what-was-entered a h = has-contents (brought a h)

@@ -46,7 +46,9 @@ use Rattle.filling.proofs.Reading as filled
 use Rattle.filling.proofs.Listed.{Fits, fitting-fits, rising-earlier}
 use Rattle.lent.specs.Lent.{Tables, tables, partCount, lengths, lentBoth, lentList}
 use Rattle.lent.proofs.Lent.{list-passed}
-use Rattle.catalogue.specs.Calls.{Call, emptyBoth, registerPart, lookUp, showAt, insertKit, findKit, deleteKit, anyWithin, anyContaining, allWithin, allContaining, allAlmost, writeSheet, readSheet, planOf, emptying, inserting, finding, deleting, anyKit, reading}
+use Rattle.catalogue.specs.Calls.{Call, emptyBoth, registerPart, lookUp, showAt, insertKit, findKit, deleteKit, anyWithin, anyContaining}
+use Rattle.catalogue.specs.Calls.{allWithin, allContaining, allAlmost, writeSheet, readSheet, planOf, emptying, inserting, finding}
+use Rattle.catalogue.specs.Calls.{deleting, anyKit, reading}
 use Rattle.catalogue.specs.Demands as demand
 use Rattle.catalogue.specs.Demands.{has, listedIn, step, model, run, log, Catalogue, Allowed, begun, tablesOf, entered}
 use Rattle.demands.proofs.Model.{apart, order-same, every-dropped, dropped-apart, order-dropped}
@@ -81,7 +83,12 @@ module _ (R : List ℕ) (fits : registerLength R ≡ true) where
   no-slots = record { inside = omega arith; good = λ k u. absurd (omega arith); rest = zeros-all (length R); once = refl }
 
   zeros-ready : Ready (zeroed R)
-  zeros-ready = record { fits = same-register R (zeroed R) (length-replicate {A = ℕ} (length R) 0) fits; sound = registers.holds-sound (zeroed R) 0 no-slots }
+  zeros-ready =
+      record {
+        fits = same-register R (zeroed R) (length-replicate {A = ℕ} (length R) 0) fits;
+        sound = registers.holds-sound (zeroed R) 0
+            no-slots;
+      }
 
   zeros-parts : partsOf (zeroed R) ≡ []
   unfolding from
@@ -129,7 +136,8 @@ module _ (n R N : List ℕ) (m : Contents) (v : ℕ) (e : answer (registering n 
 
   registered : Brought (tables (memory (registering n R) R) N) (has (m .parts ++ (n ∷ [])) (m .kits))
   registered = record {
-    ready = record { fits = same-register R M (length-after-registering n R v e) (b .ready .fits); sound = sound-after-registering n R v e };
+    ready =
+        record { fits = same-register R M (length-after-registering n R v e) (b .ready .fits); sound = sound-after-registering n R v e };
     sized = b .sized;
     sound = widen one-more (b .sound);
     parts = now-parts;
@@ -139,14 +147,16 @@ module _ (n R N : List ℕ) (m : Contents) (v : ℕ) (e : answer (registering n 
   }
 
 -- A kit inserted
-module _ (l : List ℕ) (t : ℕ) (R N : List ℕ) (m : Contents) (b : Brought (tables R N) m) (good : goodList (length (partsOf R)) l ≡ true) (short : length (units l) ≤ mostUnits) (some-tag : 0 < t) (A : Accepted (units l) t N) where
+module _ (l : List ℕ) (t : ℕ) (R N : List ℕ) (m : Contents) (b : Brought (tables R N) m) (good : goodList (length (partsOf R)) l ≡ true)
+    (short : length (units l) ≤ mostUnits) (some-tag : 0 < t) (A : Accepted (units l) t N) where
   row : GoodRow (length (partsOf R)) (units l)
   row = good-row (length (partsOf R)) l good short
 
   new-row : (k : Kit) → List·Memᴰ k (m .kits) → units l ≢ k .row
   new-row k i e =
       let h : List·Memᴰ k (held N) = subst (List·Memᴰ k) (sym (b .kits)) (mem-order k (m .kits) i) in
-      let f : tagIn (units l) (held N) ≡ k .tag = ap (λ (r : List ℕ). tagIn r (held N)) e ∙ tag-in k (held N) (held-rows-differ (b .sound .shape)) h in
+      let f : tagIn (units l) (held N) ≡ k .tag = ap (λ (r : List ℕ). tagIn r (held N)) e ∙ tag-in k (held N)
+      (held-rows-differ (b .sound .shape)) h in
       omega (arith, A .fresh, held-tagged (b .sound .shape) k h)
 
   pub now-held : held (enter N 0 (units l) t) ≡ inOrder (kit (units l) t ∷ m .kits)
@@ -189,11 +199,13 @@ empty-kept T v e =
     let z = done-passes _ _ _ _ (a .1) in
     emptied (T .register) (T .nodes) (not-false _ (a .0)) (not-false _ (z .0))
 
-register-kept : (n : List ℕ) (T : Tables) (m : Contents) (v : ℕ) → answer (registering n (T .register)) ≡ done v → Brought T m → Brought (tables (registering n (T .register) .after) (T .nodes)) (has (m .parts ++ (n ∷ [])) (m .kits))
+register-kept : (n : List ℕ) (T : Tables) (m : Contents) (v : ℕ) → answer (registering n (T .register)) ≡ done v → Brought T m →
+    Brought (tables (registering n (T .register) .after) (T .nodes)) (has (m .parts ++ (n ∷ [])) (m .kits))
 unfolding memory
 register-kept n T m v e b =
     let R = T .register in
-    subst (λ (M : List ℕ). Brought (tables M (T .nodes)) (has (m .parts ++ (n ∷ [])) (m .kits))) (leaves-done (answer (registering n R)) v R (registering n R .after) e) (registered n R (T .nodes) m v e b)
+    subst (λ (M : List ℕ). Brought (tables M (T .nodes)) (has (m .parts ++ (n ∷ [])) (m .kits)))
+    (leaves-done (answer (registering n R)) v R (registering n R .after) e) (registered n R (T .nodes) m v e b)
 
 -- what an accepted insertion was given
 pub record Insertion (l : List ℕ) (t : ℕ) (T : Tables) (v : ℕ) : Type 0 where
@@ -211,11 +223,20 @@ insertion l t T v e =
     let f = done-parts (listFaults (partCount T) l) _ 0 _ v (z .1) in
     let s = done-passes _ _ _ _ (f .1) in
     let k = accepted (units l) (T .nodes) t v (s .1) in
-    record { good = good-list (partCount T) l (f .0); short = ltb-false mostUnits (length (units l)) (s .0); some-tag = omega (arith, eqb-false t 0 (z .0)); accepted = k .0; takes = k .1 }
+    record {
+      good = good-list (partCount T) l (f .0);
+      short = ltb-false mostUnits (length (units l)) (s .0);
+      some-tag = omega
+          (arith, eqb-false t 0 (z .0));
+      accepted = k .0;
+      takes = k .1;
+    }
 
-insert-kept : (l : List ℕ) (t : ℕ) (T : Tables) (m : Contents) (v : ℕ) → t < twoLimit → answer (inserting l t T) ≡ done v → Brought T m → Brought (inserting l t T .after) (has (m .parts) (kit (units l) t ∷ m .kits))
+insert-kept : (l : List ℕ) (t : ℕ) (T : Tables) (m : Contents) (v : ℕ) → t < twoLimit → answer (inserting l t T) ≡ done v → Brought T m →
+    Brought (inserting l t T .after) (has (m .parts) (kit (units l) t ∷ m .kits))
 unfolding inserting
-insert-kept l t T m v h e b = let i = insertion l t T v e in inserted l t (T .register) (T .nodes) m b (i .good) (i .short) (i .some-tag) (i .accepted) h
+insert-kept l t T m v h e b =
+    let i = insertion l t T v e in inserted l t (T .register) (T .nodes) m b (i .good) (i .short) (i .some-tag) (i .accepted) h
 
 pub delete-held : (l : List ℕ) (T : Tables) (v : ℕ) → answer (deleting l T) ≡ done v → tagIn (units l) (held (T .nodes)) ≢ 0
 unfolding answer deleting deletingRow
@@ -223,12 +244,14 @@ delete-held l T v e =
     let a = done-parts (lentList T l) _ 0 _ v e in
     deleting-tag (units l) (T .nodes) v (a .1) .0
 
-delete-kept : (l : List ℕ) (T : Tables) (m : Contents) (v : ℕ) → answer (deleting l T) ≡ done v → Brought T m → Brought (deleting l T .after) (has (m .parts) (dropKit (units l) (m .kits)))
+delete-kept : (l : List ℕ) (T : Tables) (m : Contents) (v : ℕ) → answer (deleting l T) ≡ done v → Brought T m →
+    Brought (deleting l T .after) (has (m .parts) (dropKit (units l) (m .kits)))
 unfolding deleting
 delete-kept l T m v e b = deleted (units l) (T .register) (T .nodes) m b (delete-held l T v e)
 
 -- A sheet read
-module _ (s : List ℕ) (T : Tables) (v : ℕ) (h : Bytes s) (fits : registerLength (T .register) ≡ true) (sized : nodesLength (T .nodes) ≡ true) (e : answer (read.reading s T) ≡ done v) where
+module _ (s : List ℕ) (T : Tables) (v : ℕ) (h : Bytes s) (fits : registerLength (T .register) ≡ true)
+    (sized : nodesLength (T .nodes) ≡ true) (e : answer (read.reading s T) ≡ done v) where
   abbrev c : Contents
   c = said (decode s)
 
@@ -249,14 +272,20 @@ module _ (s : List ℕ) (T : Tables) (v : ℕ) (h : Bytes s) (fits : registerLen
 
   small-tags : Every SmallTag (said (decode s) .kits)
   unfolding goodKit
-  small-tags = mem-every (c .kits) (λ k m. ltb-true (k .tag) twoLimit (every-at _ 1 (allb-mem (goodKit (length (c .parts))) (c .kits) k (what-fits .kits-good) m)))
+  small-tags =
+      mem-every (c .kits)
+      (λ k m. ltb-true (k .tag) twoLimit (every-at _ 1 (allb-mem (goodKit (length (c .parts))) (c .kits) k (what-fits .kits-good) m)))
 
   read-in : Brought (filling (said (decode s)) T) (said (decode s))
   read-in =
       let z : nodesLength (F .nodes) ≡ true = same-nodes (T .nodes) (F .nodes) (what-is-in .nodes-length) sized in
       let p = what-is-in .parts in
       record {
-        ready = record { fits = same-register (T .register) (F .register) (what-is-in .register-length) fits; sound = what-is-in .register-sound };
+        ready =
+            record {
+              fits = same-register (T .register) (F .register) (what-is-in .register-length) fits;
+              sound = what-is-in .register-sound;
+            };
         sized = z;
         sound = rw p (sound-exactly (length (c .parts)) (F .nodes) z .0 (what-is-in .nodes-sound));
         parts = p;
@@ -299,7 +328,8 @@ pub record Typed (c : Call) : Type 0 where
   pub tag : (l : List ℕ) (t : ℕ) → insertKit l t ≡ c → t < twoLimit
   pub sheet : (s : List ℕ) → readSheet s ≡ c → Bytes s
 
-pub done-keeps : (c : Call) (T : Tables) (m : Contents) (v : ℕ) → Typed c → answer (planOf c T) ≡ done v → Brought T m → Brought (planOf c T .after) (demand.accepted c m)
+pub done-keeps : (c : Call) (T : Tables) (m : Contents) (v : ℕ) → Typed c → answer (planOf c T) ≡ done v → Brought T m →
+    Brought (planOf c T .after) (demand.accepted c m)
 unfolding planOf demand.accepted answer lookingUp showing finding anyKit
 done-keeps emptyBoth T m v y e b = empty-kept T v e
 done-keeps (registerPart n) T m v y e b = register-kept n T m v e b
@@ -317,7 +347,8 @@ done-keeps (writeSheet o) T m v y e b = b
 done-keeps (readSheet s) T m v y e b = read-kept s T v (y .sheet s refl) e
 
 -- A call, done or refused
-pub call-keeps : (c : Call) (T : Tables) (m : Contents) → Typed c → Brought T m → Brought (memory (planOf c T) T) (step c (answer (planOf c T)) m)
+pub call-keeps : (c : Call) (T : Tables) (m : Contents) → Typed c → Brought T m →
+    Brought (memory (planOf c T) T) (step c (answer (planOf c T)) m)
 unfolding memory leaves step
 call-keeps c T m y b = go (answer (planOf c T)) refl
   where
@@ -358,7 +389,8 @@ begun-empty a h =
     (room-fits (a .room) N (h .some-node) (h .few-nodes) (length-replicate {A = ℕ} (a .room * wordsPerNode) 0))))
 
 pub all-typed : (a : Catalogue) → Allowed a → Every Typed (a .calls)
-all-typed a h = mem-every (a .calls) (λ c m. record { tag = λ l t e. h .tags l t (Memᴰ·cast e m); sheet = λ s e. h .sheets s (Memᴰ·cast e m) })
+all-typed a h =
+    mem-every (a .calls) (λ c m. record { tag = λ l t e. h .tags l t (Memᴰ·cast e m); sheet = λ s e. h .sheets s (Memᴰ·cast e m) })
 
 -- The law: the tables of a catalogue are sound and have what its accepted calls left.
 pub brought : (a : Catalogue) → Allowed a → Brought (tablesOf a) (entered a)

@@ -15,12 +15,14 @@ use Rattle.demands.proofs.Brought.{brought, insertion, now-held, now-be
 
 -- the order of the kits does not matter
 pub as-many : (ks : List Kit) → length (allBeginnings (inOrder ks)) ≡ length (allBeginnings ks)
-as-many ks = omega (arith, more-beginnings (inOrder ks) ks (λ k m. order-mem k ks m), more-beginnings ks (inOrder ks) (λ k m. mem-order k ks m))
+as-many ks =
+    omega (arith, more-beginnings (inOrder ks) ks (λ k m. order-mem k ks m), more-beginnings ks (inOrder ks) (λ k m. mem-order k ks m))
 
 pub nodes-counted : NodesCounted
 nodes-counted a h =
     let b = brought a h in
-    nodes-used (b .sound) ∙ ap (λ (ks : List Kit). 1 + length (allBeginnings ks)) (b .kits) ∙ ap (λ (n : ℕ). 1 + n) (as-many (entered a .kits))
+    nodes-used (b .sound) ∙ ap (λ (ks : List Kit). 1 + length (allBeginnings ks)) (b .kits) ∙ ap (λ (n : ℕ). 1 + n)
+    (as-many (entered a .kits))
 
 pub nodes-taken : NodesTaken
 nodes-taken a l t v h e =
@@ -29,4 +31,13 @@ nodes-taken a l t v h e =
     let i = insertion l t T v e in
     let now = now-held l t (T .register) (T .nodes) (entered a) b (i .good) (i .short) (i .some-tag) (i .accepted) in
     let more = now-begun l t (T .register) (T .nodes) (entered a) b (i .good) (i .short) (i .some-tag) (i .accepted) in
-    omega (arith, more, i .takes, ap (λ (ks : List Kit). length (allBeginnings ks)) now, ap (λ (ks : List Kit). length (allBeginnings ks)) (b .kits), as-many (kit (units l) t ∷ entered a .kits), as-many (entered a .kits))
+    omega (
+      arith,
+      more,
+      i .takes,
+      ap (λ (ks : List Kit). length (allBeginnings ks)) now,
+      ap (λ (ks : List Kit). length (allBeginnings ks))
+          (b .kits),
+      as-many (kit (units l) t ∷ entered a .kits),
+      as-many (entered a .kits),
+    )

@@ -24,17 +24,20 @@ module _ (r : List ℕ) where
   pub every-dropped : {P : Kit → Type 0} (ks : List Kit) → Every P ks → Every P (dropKit r ks)
   unfolding dropKit
   every-dropped [] none = none
-  every-dropped {P} (k ∷ ks) (also q s) = by-cond (Every P) (eqList r (k .row)) ks (k ∷ dropKit r ks) (λ _. s) (λ _. also q (every-dropped ks s))
+  every-dropped {P} (k ∷ ks) (also q s) =
+      by-cond (Every P) (eqList r (k .row)) ks (k ∷ dropKit r ks) (λ _. s) (λ _. also q (every-dropped ks s))
 
   pub dropped-apart : (ks : List Kit) → Rising OtherRow ks → Rising OtherRow (dropKit r ks)
   unfolding dropKit
   dropped-apart [] none = none
-  dropped-apart (k ∷ ks) (ahead q s) = by-cond (Rising OtherRow) (eqList r (k .row)) ks (k ∷ dropKit r ks) (λ _. s) (λ _. ahead (every-dropped ks q) (dropped-apart ks s))
+  dropped-apart (k ∷ ks) (ahead q s) =
+      by-cond (Rising OtherRow) (eqList r (k .row)) ks (k ∷ dropKit r ks) (λ _. s) (λ _. ahead (every-dropped ks q) (dropped-apart ks s))
 
   dropped-mem : (a : Kit) (ks : List Kit) → Rising OtherRow ks → List·Memᴰ a (dropKit r ks) → List·Memᴰ a ks × (r ≢ a .row)
   unfolding dropKit
   dropped-mem a [] s m = absurd (List·Memᴰ·not-nil m)
-  dropped-mem a (k ∷ ks) (ahead q s) m = by-cond (λ (L : List Kit). List·Memᴰ a L → List·Memᴰ a (k ∷ ks) × (r ≢ a .row)) (eqList r (k .row)) ks (k ∷ dropKit r ks)
+  dropped-mem a (k ∷ ks) (ahead q s) m =
+      by-cond (λ (L : List Kit). List·Memᴰ a L → List·Memᴰ a (k ∷ ks) × (r ≢ a .row)) (eqList r (k .row)) ks (k ∷ dropKit r ks)
       (λ e m. (List·Memᴰ·tail m, λ z. every-mem q m (sym (eqList-true r (k .row) e) ∙ z)))
       (λ e m. ⊎-elim
       (λ (w : a ≡ k). (List·Memᴰ·head w, λ z. never (sym (eqList-refl r) ∙ ap (eqList r) (z ∙ ap (λ (p : Kit). p .row) w) ∙ e)))
@@ -80,12 +83,14 @@ same-kit k j e f = sym (ap (λ r. a-kit r (j .tag)) e ∙ ap (a-kit (k .row)) f)
     a-kit : List ℕ → ℕ → Kit
     a-kit r t = record { row = r; tag = t }
 
-there : (ks js : List Kit) → Rising OtherRow ks → Every HasTag ks → ((r : List ℕ) → tagIn r ks ≡ tagIn r js) → (k : Kit) → List·Memᴰ k ks → List·Memᴰ k js
+there : (ks js : List Kit) → Rising OtherRow ks → Every HasTag ks → ((r : List ℕ) → tagIn r ks ≡ tagIn r js) → (k : Kit) → List·Memᴰ k ks →
+    List·Memᴰ k js
 there ks js s t h k m =
     let e = sym (tag-in k ks s m) ∙ h (k .row) in
     let g = every-mem t m in
     let f = tag-from (k .row) js (λ z. omega arith) in
     subst (λ (x : Kit). List·Memᴰ x js) (sym (same-kit k (f .0) (f .2) (f .3 ∙ sym e))) (f .1)
 
-pub tags-determine : (ks js : List Kit) → Rising Earlier ks → Rising Earlier js → Every HasTag ks → Every HasTag js → ((r : List ℕ) → tagIn r ks ≡ tagIn r js) → ks ≡ js
+pub tags-determine : (ks js : List Kit) → Rising Earlier ks → Rising Earlier js → Every HasTag ks → Every HasTag js →
+    ((r : List ℕ) → tagIn r ks ≡ tagIn r js) → ks ≡ js
 tags-determine ks js s o t u h = listing-same s o (there ks js (apart s) t h) (there js ks (apart o) u (λ r. sym (h r)))

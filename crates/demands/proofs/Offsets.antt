@@ -12,7 +12,9 @@ use Rattle.ground.specs.Lists.{eqList, isZero}
 use Rattle.nodes.specs.Held.{Kit}
 use Rattle.sheet.specs.Bytes.{fromBytes, Bytes, twoLimit}
 use Rattle.sheet.specs.Sheet.{Contents, mark, placeBytes}
-use Rattle.sheet.specs.Reading.{Item, item, fault, Reading, onward, one, bytes, isVersion, partCount, anyTwo, numberSize, newNumber, numbers, recordSize, newKit, kitIn, Run, stop, also, unless, records, Front, front, runOf, whole, decode, offset}
+use Rattle.sheet.specs.Reading.{Item, item, fault, Reading, onward, one, bytes, isVersion, partCount, anyTwo, numberSize, newNumber}
+use Rattle.sheet.specs.Reading.{numbers, recordSize, newKit, kitIn, Run, stop, also, unless, records, Front, front, runOf, whole, decode}
+use Rattle.sheet.specs.Reading.{offset}
 use Rattle.sheet.proofs.Numbers.{bytes-take, bytes-drop, from-less}
 
 -- a reading that comes at most n bytes far, and what is known of what it read and of the bytes behind
@@ -20,7 +22,8 @@ data Read {A : Type 0} (P : A → List ℕ → Type 0) (n : ℕ) : Item A → Ty
   read : {a : A} {bs : List ℕ} {o : ℕ} → P a bs → o ≤ n → Read P n (item a bs o)
   stopped : {o : ℕ} → o ≤ n → Read P n (fault o)
 
-onward-read : {A B : Type 0} {P : A → List ℕ → Type 0} {Q : B → List ℕ → Type 0} {n k : ℕ} {m : Item A} (f : A → Reading B) → Read P n m → n ≤ k → ((a : A) (bs : List ℕ) (o : ℕ) → P a bs → o ≤ n → Read Q k (f a bs o)) → Read Q k (onward m f)
+onward-read : {A B : Type 0} {P : A → List ℕ → Type 0} {Q : B → List ℕ → Type 0} {n k : ℕ} {m : Item A} (f : A → Reading B) → Read P n m →
+    n ≤ k → ((a : A) (bs : List ℕ) (o : ℕ) → P a bs → o ≤ n → Read Q k (f a bs o)) → Read Q k (onward m f)
 unfolding onward
 onward-read f (read {a = a} {bs = bs} {o = o} p h) l g = g a bs o p h
 onward-read f (stopped {o = o} h) l g = stopped {o = o} (omega arith)
@@ -32,12 +35,21 @@ record Whole (size : ℕ) (good : List ℕ → Bool) (b rest : List ℕ) : Type 
   bytes-in : Bytes b
   bytes-behind : Bytes rest
 
-one-read : (size : List ℕ → ℕ) (good : List ℕ → Bool) (bs : List ℕ) (o n : ℕ) → Bytes bs → o + size bs ≤ n → Read (Whole (size bs) good) n (one size good bs o)
+one-read : (size : List ℕ → ℕ) (good : List ℕ → Bool) (bs : List ℕ) (o n : ℕ) → Bytes bs → o + size bs ≤ n →
+    Read (Whole (size bs) good) n (one size good bs o)
 unfolding one
 one-read size good bs o n h l = go (leb (size bs) (length bs)) refl (good (take (size bs) bs)) refl
   where
-    go : (x : Bool) → leb (size bs) (length bs) ≡ x → (y : Bool) → good (take (size bs) bs) ≡ y → Read (Whole (size bs) good) n (cond (x && y) (item (take (size bs) bs) (drop (size bs) bs) (o + size bs)) (fault o))
-    go true e true g = read (record { is-good = g; long = length-take-le (size bs) bs (leb-true (size bs) (length bs) e); bytes-in = bytes-take bs (size bs) h; bytes-behind = bytes-drop bs (size bs) h }) l
+    go : (x : Bool) → leb (size bs) (length bs) ≡ x → (y : Bool) → good (take (size bs) bs) ≡ y →
+        Read (Whole (size bs) good) n (cond (x && y) (item (take (size bs) bs) (drop (size bs) bs) (o + size bs)) (fault o))
+    go true e true g =
+        read (record {
+          is-good = g;
+          long = length-take-le (size bs) bs (leb-true (size bs) (length bs) e);
+          bytes-in = bytes-take bs
+              (size bs) h;
+          bytes-behind = bytes-drop bs (size bs) h;
+        }) l
     go true e false g = stopped {o = o} (omega arith)
     go false e y g = stopped {o = o} (omega arith)
 
@@ -79,10 +91,15 @@ front-read s h =
 records-far : (n parts : ℕ) (seen : List Kit) (bs : List ℕ) (o : ℕ) → Bytes bs → records placeBytes n parts seen bs o .offset ≤ o + n * 513
 unfolding records recordSize unless
 records-far zero parts seen bs o h = omega arith
-records-far (suc n) parts seen bs o h = go (one-read (recordSize placeBytes) (newKit placeBytes parts seen) bs o (o + 513) h (omega (arith, h 2))) (λ b rest p w l. records-far n parts (kitIn placeBytes b ∷ seen) rest p (w .bytes-behind))
+records-far (suc n) parts seen bs o h =
+    go (one-read (recordSize placeBytes) (newKit placeBytes parts seen) bs o (o + 513) h (omega (arith, h 2)))
+    (λ b rest p w l. records-far n parts (kitIn placeBytes b ∷ seen) rest p (w .bytes-behind))
   where
-    go : {m : Item (List ℕ)} {z : ℕ} → Read (Whole z (newKit placeBytes parts seen)) (o + 513) m → ((b rest : List ℕ) (p : ℕ) → Whole z (newKit placeBytes parts seen) b rest → p ≤ o + 513 → records placeBytes n parts (kitIn placeBytes b ∷ seen) rest p .offset ≤ p + n * 513)
-        → unless m (stop (suc n) bs o) (λ b rest p. also (kitIn placeBytes b) (records placeBytes n parts (kitIn placeBytes b ∷ seen) rest p)) .offset ≤ o + suc n * 513
+    go : {m : Item (List ℕ)} {z : ℕ} → Read (Whole z (newKit placeBytes parts seen)) (o + 513) m →
+        ((b rest : List ℕ) (p : ℕ) → Whole z (newKit placeBytes parts seen) b rest → p ≤ o + 513 → records placeBytes n parts
+        (kitIn placeBytes b ∷ seen) rest p .offset ≤ p + n * 513)
+        → unless m (stop (suc n) bs o)
+        (λ b rest p. also (kitIn placeBytes b) (records placeBytes n parts (kitIn placeBytes b ∷ seen) rest p)) .offset ≤ o + suc n * 513
     go (read {a = b} {bs = rest} {o = p} w l) f = omega (arith, f b rest p w l)
     go (stopped l) f = omega arith
 

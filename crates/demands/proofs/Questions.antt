@@ -61,14 +61,16 @@ done-same : (v w : ℕ) → done v ≡ done w → v ≡ w
 done-same v w e = cc
 
 -- a question and what it asks of a kit
-module _ (question : Question) (Asks : List ℕ → Kit → Type 0) (asks : (u : List ℕ) (k : Kit) → (question u k ≡ true) ↔ Asks u k) (l : List ℕ) where
+module _ (question : Question) (Asks : List ℕ → Kit → Type 0) (asks : (u : List ℕ) (k : Kit) → (question u k ≡ true) ↔ Asks u k)
+    (l : List ℕ) where
   listed-exactly : (N : List ℕ) (k : Kit) → List·Memᴰ k (fitting question l N) ↔ (List·Memᴰ k (listed N) × Asks (units l) k)
   listed-exactly N k = (
     λ m. let h = fitting-exactly question l N k .0 m in (h .0, asks (units l) k .0 (h .1)),
     λ h. fitting-exactly question l N k .1 (h .0, asks (units l) k .1 (h .1)),
   )
 
-  none-asked : (T : Tables) → Asked T l → (answer (anyKit question l T) ≡ done 0) ↔ ((k : Kit) → List·Memᴰ k (listed (T .nodes)) → Asks (units l) k → ⊥)
+  none-asked : (T : Tables) → Asked T l →
+      (answer (anyKit question l T) ≡ done 0) ↔ ((k : Kit) → List·Memᴰ k (listed (T .nodes)) → Asks (units l) k → ⊥)
   unfolding anyOf
   none-asked T s =
       let N = T .nodes in

@@ -1,4 +1,5 @@
--- Demand 3: two sheets agree in every byte exactly when the catalogues agree; a sheet read is the sheet written again; no second sheet means the same.
+-- Demand 3: two sheets agree in every byte exactly when the catalogues agree; a sheet read is the sheet written again; no second sheet
+-- means the same.
 use mathlib.Core.Path.{_≡_, sym, ap, subst, _∙_}
 use mathlib.Core.Logic.{_↔_, ⊎-elim}
 use mathlib.Core.Bool.{true}
@@ -45,7 +46,11 @@ module _ {T : Tables} {m : Contents} (b : Brought T m) where
   pub writes : (o : List ℕ) → length (encode (listedIn m)) ≤ length o → Writes T o (encode (listedIn m))
   writes o h =
       let p : Promise (setDown [] S o) o (done (length S)) (laid o 0 S) = set-down-done S o h in
-      record { written = write-answer o ∙ sym (p .answers); is = ap (take (length S)) (write-memory o ∙ sym (p .lent) ∙ laid-front o S) ∙ take-append-seam S _ }
+      record {
+        written = write-answer o ∙ sym (p .answers);
+        is = ap (take (length S)) (write-memory o ∙ sym (p .lent) ∙ laid-front o S)
+            ∙ take-append-seam S _;
+      }
 
   -- and no other
   pub written-is : (o s : List ℕ) → Writes T o s → s ≡ encode (listedIn m)
@@ -77,9 +82,11 @@ module _ {T : Tables} {m : Contents} (b : Brought T m) where
 module _ {T U : Tables} {m n : Contents} (b : Brought T m) (d : Brought U n) where
   agree-same : Agree m n → listedIn m ≡ listedIn n
   agree-same g =
-      let t : (r : List ℕ) → tagIn r (inOrder (m .kits)) ≡ tagIn r (inOrder (n .kits)) = λ r. tag-order r (m .kits) (b .apart) ∙ g .kits r ∙ sym (tag-order r (n .kits) (d .apart)) in
+      let t : (r : List ℕ) → tagIn r (inOrder (m .kits)) ≡ tagIn r (inOrder (n .kits)) = λ r. tag-order r (m .kits) (b .apart) ∙ g .kits r
+      ∙ sym (tag-order r (n .kits) (d .apart)) in
       let p = g .parts in
-      let k = tags-determine (inOrder (m .kits)) (inOrder (n .kits)) (order-rises (b .apart)) (order-rises (d .apart)) (have-tags b) (have-tags d) t in
+      let k = tags-determine (inOrder (m .kits)) (inOrder (n .kits)) (order-rises (b .apart)) (order-rises (d .apart)) (have-tags b)
+      (have-tags d) t in
       rw (p, k)
 
   same-agree : listedIn m ≡ listedIn n → Agree m n
@@ -103,9 +110,12 @@ pub sheet-is-written : SheetIsWritten
 sheet-is-written a o h r = writes (brought a h) o r
 
 -- the tables that a reading leaves
-read-in-place : (s : List ℕ) (T : Tables) (k : ℕ) → Bytes s → answer (reading s T) ≡ done k → Brought (memory (reading s T) T) (said (decode s))
+read-in-place : (s : List ℕ) (T : Tables) (k : ℕ) → Bytes s → answer (reading s T) ≡ done k →
+    Brought (memory (reading s T) T) (said (decode s))
 unfolding memory
-read-in-place s T k h e = subst (λ (M : Tables). Brought M (said (decode s))) (sym (leaves-done (answer (reading s T)) k T (reading s T .after) e)) (read-kept s T k h e)
+read-in-place s T k h e =
+    subst (λ (M : Tables). Brought M (said (decode s))) (sym (leaves-done (answer (reading s T)) k T (reading s T .after) e))
+    (read-kept s T k h e)
 
 pub same-again : SameAgain
 same-again T o s k h e r =
@@ -116,4 +126,5 @@ pub no-other : NoOther
 no-other T o s t k h e w = written-is (read-in-place s T k h e) o t w ∙ sheet-again s T k h e
 
 pub no-second : NoSecond
-no-second T U s t k n h i e f g = sym (sheet-again s T k h e) ∙ ap encode (agree-same (read-in-place s T k h e) (read-in-place t U n i f) g) ∙ sheet-again t U n i f
+no-second T U s t k n h i e f g =
+    sym (sheet-again s T k h e) ∙ ap encode (agree-same (read-in-place s T k h e) (read-in-place t U n i f) g) ∙ sheet-again t U n i f

@@ -5,7 +5,8 @@ use Rattle.ground.specs.Lists.{allb, anyb, every, keep, distinct, concat, eqLis
 use Rattle.ground.specs.Laid.{laid}
 use Rattle.ground.specs.Calls.{decide, answer, leaves, memory, setDown, setBoth}
 use Rattle.register.specs.Number.{goodByte, goodNumber}
-use Rattle.register.specs.Register.{registerLength, slotOf, slotAt, numberIn, slotGood, unusedAt, usedAt, numberAt, partsOf, usedHolds, usedFirst, unusedZero, noneTwice, registerSound, placeFrom, placeIn}
+use Rattle.register.specs.Register.{registerLength, slotOf, slotAt, numberIn, slotGood, unusedAt, usedAt, numberAt, partsOf, usedHolds}
+use Rattle.register.specs.Register.{usedFirst, unusedZero, noneTwice, registerSound, placeFrom, placeIn}
 use Rattle.register.specs.Calls.{lentRegister, numberRefusals, registering}
 use Rattle.kits.specs.Kits.{lineValue, lineFaults, linesFaults, listFaults, units, count, noMore, includes, before, linesFrom, listOf}
 use Rattle.nodes.specs.Nodes.{nodesLength, nodesOf, othersOf, zeroWord, isFree, isUsed, freeNodes, usedNodes, tagged, path, rowOf, chain, children}
@@ -26,7 +27,15 @@ use Rattle.demands.specs.ShortCases.{inserted, holding, asked, askedAlmo
 
 -- opens every definition
 unfoldable opened : Bool
-unfolding allb anyb every keep distinct concat eqList from firstOr laid decide answer leaves memory setDown goodByte goodNumber registerLength slotOf slotAt numberIn slotGood unusedAt usedAt numberAt partsOf usedHolds usedFirst unusedZero noneTwice registerSound placeFrom placeIn lentRegister numberRefusals registering lineValue lineFaults linesFaults listFaults units count noMore includes before linesFrom listOf nodesLength nodesOf othersOf zeroWord isFree isUsed freeNodes usedNodes tagged path rowOf chain children rootGood parentGood depthGood labelGood fewEqual linksInside childGood nextGood onChain endTagged tagsDiffer usedOthers nodesSound putKit inOrder tagIn tagsOf kitAt held hasLabel childWith lastBelow linkTo link unlink lowestFree enter lacks nodeOf prune strikeAt strike entryRefusals missingRefusals isWithin isContaining fitting allOf lengths lentBoth lentList planOf inserting deleting allKits almostKits sumOver lacking shortfall shortOf isAlmost shortsOf setBoth run begun tablesOf inserted holding asked askedAlmost struck firstTag anyOf anyKit log writing encode numberItem numberItems lineItems recordItem recordItems inBytes entries later desk replies
+unfolding allb anyb every keep distinct concat eqList from firstOr laid decide answer leaves memory setDown goodByte goodNumber
+    registerLength slotOf slotAt numberIn slotGood unusedAt usedAt numberAt partsOf usedHolds usedFirst unusedZero noneTwice registerSound
+    placeFrom placeIn lentRegister numberRefusals registering lineValue lineFaults linesFaults listFaults units count noMore includes before
+    linesFrom listOf nodesLength nodesOf othersOf zeroWord isFree isUsed freeNodes usedNodes tagged path rowOf chain children rootGood
+    parentGood depthGood labelGood fewEqual linksInside childGood nextGood onChain endTagged tagsDiffer usedOthers nodesSound putKit inOrder
+    tagIn tagsOf kitAt held hasLabel childWith lastBelow linkTo link unlink lowestFree enter lacks nodeOf prune strikeAt strike
+    entryRefusals missingRefusals isWithin isContaining fitting allOf lengths lentBoth lentList planOf inserting deleting allKits almostKits
+    sumOver lacking shortfall shortOf isAlmost shortsOf setBoth run begun tablesOf inserted holding asked askedAlmost struck firstTag anyOf
+    anyKit log writing encode numberItem numberItems lineItems recordItem recordItems inBytes entries later desk replies
 opened = true
 
 pub short-cases : ShortCases

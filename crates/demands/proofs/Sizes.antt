@@ -16,7 +16,9 @@ use Rattle.nodes.proofs.Sorted.{Every, also}
 use Rattle.index.proofs.Kept.{insert-length, delete-length}
 use Rattle.sheet.specs.Sheet.{Contents}
 use Rattle.lent.specs.Lent.{Tables, tables, partCount}
-use Rattle.catalogue.specs.Calls.{Call, emptyBoth, registerPart, lookUp, showAt, insertKit, findKit, deleteKit, anyWithin, anyContaining, allWithin, allContaining, allAlmost, writeSheet, readSheet, planOf, emptying, inserting, finding, deleting, anyKit}
+use Rattle.catalogue.specs.Calls.{Call, emptyBoth, registerPart, lookUp, showAt, insertKit, findKit, deleteKit, anyWithin, anyContaining}
+use Rattle.catalogue.specs.Calls.{allWithin, allContaining, allAlmost, writeSheet, readSheet, planOf, emptying, inserting, finding}
+use Rattle.catalogue.specs.Calls.{deleting, anyKit}
 use Rattle.catalogue.specs.Demands.{has, step, run, Catalogue, Allowed, begun, tablesOf}
 use Rattle.demands.proofs.Brought.{Brought, Typed, insertion, delete-held, what-was-read, call-keeps, begun-empty, all-typed}
 
@@ -25,19 +27,28 @@ pub record Alike (T U : Tables) : Type 0 where
   pub register : length (U .register) ≡ length (T .register)
   pub nodes : length (U .nodes) ≡ length (T .nodes)
 
-register-alike : (n : List ℕ) (T : Tables) (v : ℕ) → answer (registering n (T .register)) ≡ done v → Alike T (tables (registering n (T .register) .after) (T .nodes))
+register-alike : (n : List ℕ) (T : Tables) (v : ℕ) → answer (registering n (T .register)) ≡ done v →
+    Alike T (tables (registering n (T .register) .after) (T .nodes))
 unfolding memory
 register-alike n T v e =
     let R = T .register in
-    record { register = ap length (sym (leaves-done (answer (registering n R)) v R (registering n R .after) e)) ∙ length-after-registering n R v e; nodes = refl }
+    record {
+      register = ap length (sym (leaves-done (answer (registering n R)) v R (registering n R .after) e)) ∙ length-after-registering n
+          R v e;
+      nodes = refl;
+    }
 
-done-alike : (c : Call) (T : Tables) (m : Contents) (v : ℕ) → Typed c → answer (planOf c T) ≡ done v → Brought T m → Alike T (planOf c T .after)
+done-alike : (c : Call) (T : Tables) (m : Contents) (v : ℕ) → Typed c → answer (planOf c T) ≡ done v → Brought T m →
+    Alike T (planOf c T .after)
 unfolding planOf answer emptying lookingUp showing inserting finding deleting anyKit
-done-alike emptyBoth T m v y e b = record { register = length-replicate (length (T .register)) 0; nodes = length-replicate (length (T .nodes)) 0 }
+done-alike emptyBoth T m v y e b =
+    record { register = length-replicate (length (T .register)) 0; nodes = length-replicate (length (T .nodes)) 0 }
 done-alike (registerPart n) T m v y e b = register-alike n T v e
 done-alike (lookUp n) T m v y e b = record { register = refl; nodes = refl }
 done-alike (showAt p) T m v y e b = record { register = refl; nodes = refl }
-done-alike (insertKit l t) T m v y e b = let i = insertion l t T v e in record { register = refl; nodes = insert-length (b .sound) (good-row (partCount T) l (i .good) (i .short)) (i .some-tag) (i .accepted) }
+done-alike (insertKit l t) T m v y e b =
+    let i = insertion l t T v e in
+    record { register = refl; nodes = insert-length (b .sound) (good-row (partCount T) l (i .good) (i .short)) (i .some-tag) (i .accepted) }
 done-alike (findKit l) T m v y e b = record { register = refl; nodes = refl }
 done-alike (deleteKit l) T m v y e b = record { register = refl; nodes = delete-length (b .sound) (units l) (delete-held l T v e) }
 done-alike (anyWithin l) T m v y e b = record { register = refl; nodes = refl }
@@ -46,7 +57,8 @@ done-alike (allWithin l o) T m v y e b = record { register = refl; nodes = refl 
 done-alike (allContaining l o) T m v y e b = record { register = refl; nodes = refl }
 done-alike (allAlmost d l o) T m v y e b = record { register = refl; nodes = refl }
 done-alike (writeSheet o) T m v y e b = record { register = refl; nodes = refl }
-done-alike (readSheet s) T m v y e b = let r = what-was-read s T v (y .sheet s refl) e in record { register = r .register-length; nodes = r .nodes-length }
+done-alike (readSheet s) T m v y e b =
+    let r = what-was-read s T v (y .sheet s refl) e in record { register = r .register-length; nodes = r .nodes-length }
 
 call-alike : (c : Call) (T : Tables) (m : Contents) → Typed c → Brought T m → Alike T (memory (planOf c T) T)
 unfolding memory leaves

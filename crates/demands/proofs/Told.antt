@@ -26,7 +26,9 @@ use Rattle.questions.specs.Questions.{isWithin, isContaining}
 use Rattle.sheet.specs.Sheet.{Contents, nodesNeeded}
 use Rattle.lent.specs.Lent.{Tables, lengths, lentList}
 use Rattle.lent.proofs.Lent.{lengths-good}
-use Rattle.catalogue.specs.Calls.{Call, emptyBoth, registerPart, lookUp, showAt, insertKit, findKit, deleteKit, anyWithin, anyContaining, allWithin, allContaining, allAlmost, writeSheet, readSheet, planOf, emptying, inserting, finding, deleting, reading}
+use Rattle.catalogue.specs.Calls.{Call, emptyBoth, registerPart, lookUp, showAt, insertKit, findKit, deleteKit, anyWithin, anyContaining}
+use Rattle.catalogue.specs.Calls.{allWithin, allContaining, allAlmost, writeSheet, readSheet, planOf, emptying, inserting, finding}
+use Rattle.catalogue.specs.Calls.{deleting, reading}
 use Rattle.demands.specs.Told.{more, told, ToldExactly}
 use Rattle.demands.proofs.Model.{tag-order}
 use Rattle.demands.proofs.Brought.{Brought, brought}
@@ -36,7 +38,8 @@ use Rattle.demands.proofs.Almost.{almost-answer}
 use Rattle.demands.proofs.Sheets.{write-answer}
 use Rattle.demands.proofs.Counts.{as-many}
 
-module _ {T : Tables} {m : Contents} (b : Brought T m) (slots room : ℕ) (hs : slotCount (T .register) ≡ slots) (hr : size (T .nodes) ≡ room) where
+module _ {T : Tables} {m : Contents} (b : Brought T m) (slots room : ℕ) (hs : slotCount (T .register) ≡ slots)
+    (hr : size (T .nodes) ≡ room) where
   abbrev R : List ℕ
   R = T .register
 
@@ -68,10 +71,14 @@ module _ {T : Tables} {m : Contents} (b : Brought T m) (slots room : ℕ) (hs : 
   borne-told t = same-cases (anyb (eqb t) (tagsOf (held N))) (anyb (eqb t) (tagsOf (m .kits)))
       (λ h.
       let o = tags-mem t (held N) (anyb-eqb t (tagsOf (held N)) h) in
-      eqb-anyb t (tagsOf (m .kits)) (subst (λ (x : ℕ). List·Memᴰ x (tagsOf (m .kits))) (o .2) (mem-tags (o .0) (m .kits) (order-mem (o .0) (m .kits) (subst (List·Memᴰ (o .0)) (b .kits) (o .1))))))
+      eqb-anyb t (tagsOf (m .kits))
+      (subst (λ (x : ℕ). List·Memᴰ x (tagsOf (m .kits))) (o .2)
+      (mem-tags (o .0) (m .kits) (order-mem (o .0) (m .kits) (subst (List·Memᴰ (o .0)) (b .kits) (o .1))))))
       (λ h.
       let o = tags-mem t (m .kits) (anyb-eqb t (tagsOf (m .kits)) h) in
-      eqb-anyb t (tagsOf (held N)) (subst (λ (x : ℕ). List·Memᴰ x (tagsOf (held N))) (o .2) (mem-tags (o .0) (held N) (subst (List·Memᴰ (o .0)) (sym (b .kits)) (mem-order (o .0) (m .kits) (o .1))))))
+      eqb-anyb t (tagsOf (held N))
+      (subst (λ (x : ℕ). List·Memᴰ x (tagsOf (held N))) (o .2)
+      (mem-tags (o .0) (held N) (subst (List·Memᴰ (o .0)) (sym (b .kits)) (mem-order (o .0) (m .kits) (o .1))))))
 
   -- the nodes that an insertion takes, and those that are free
   module _ (l : List ℕ) (t : ℕ) where
@@ -79,15 +86,25 @@ module _ {T : Tables} {m : Contents} (b : Brought T m) (slots room : ℕ) (hs : 
     unfolding inOrder
     grown =
         let e : putKit (kit (units l) t) (held N) ≡ inOrder (kit (units l) t ∷ m .kits) = ap (putKit (kit (units l) t)) (b .kits) in
-        omega (arith, nodes-needed (b .sound) (units l) t, ap (λ (ks : List Kit). length (allBeginnings ks)) e, as-many (kit (units l) t ∷ m .kits), ap (λ (ks : List Kit). length (allBeginnings ks)) (b .kits), as-many (m .kits))
+        omega (
+          arith,
+          nodes-needed (b .sound) (units l) t,
+          ap (λ (ks : List Kit). length (allBeginnings ks)) e,
+          as-many
+              (kit (units l) t ∷ m .kits),
+          ap (λ (ks : List Kit). length (allBeginnings ks)) (b .kits),
+          as-many (m .kits),
+        )
 
     free-told : nodesNeeded m + length (freeNodes (T .nodes)) ≡ room
     free-told = omega (arith, nodes-free (b .sound), ap (λ (ks : List Kit). length (allBeginnings ks)) (b .kits), as-many (m .kits), hr)
 
     full-told : ltb (length (freeNodes (T .nodes))) (lacks (T .nodes) 0 (units l)) ≡ ltb room (nodesNeeded (more m l t))
     full-told = same-cases (ltb (length (freeNodes N)) (lacks N 0 (units l))) (ltb room (nodesNeeded (more m l t)))
-        (λ h. lt-ltb room (nodesNeeded (more m l t)) (omega (arith, ltb-true (length (freeNodes N)) (lacks N 0 (units l)) h, grown, free-told)))
-        (λ h. lt-ltb (length (freeNodes N)) (lacks N 0 (units l)) (omega (arith, ltb-true room (nodesNeeded (more m l t)) h, grown, free-told)))
+        (λ h. lt-ltb room (nodesNeeded (more m l t))
+        (omega (arith, ltb-true (length (freeNodes N)) (lacks N 0 (units l)) h, grown, free-told)))
+        (λ h. lt-ltb (length (freeNodes N)) (lacks N 0 (units l))
+        (omega (arith, ltb-true room (nodesNeeded (more m l t)) h, grown, free-told)))
 
     too-few : lacks (T .nodes) 0 (units l) - length (freeNodes (T .nodes)) ≡ nodesNeeded (more m l t) - room
     too-few = omega (arith, grown, free-told)

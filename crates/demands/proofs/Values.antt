@@ -42,7 +42,9 @@ use Rattle.filling.proofs.Reading.{said-again}
 use Rattle.filling.proofs.RoundTrip.{SmallTags, words-small, catalogue-fits}
 use Rattle.lent.proofs.Lent.{Lent, both-passed, lent-passed, few-parts}
 use Rattle.lent.specs.Lent.{Tables, tables, partCount, lengths, lentBoth, lentList}
-use Rattle.catalogue.specs.Calls.{emptyBoth, registerPart, lookUp, showAt, insertKit, findKit, deleteKit, anyWithin, anyContaining, allWithin, allContaining, allAlmost, writeSheet, readSheet, planOf, emptying, inserting, finding, deleting, anyKit, allKits, almostKits, writing, reading}
+use Rattle.catalogue.specs.Calls.{emptyBoth, registerPart, lookUp, showAt, insertKit, findKit, deleteKit, anyWithin, anyContaining}
+use Rattle.catalogue.specs.Calls.{allWithin, allContaining, allAlmost, writeSheet, readSheet, planOf, emptying, inserting, finding}
+use Rattle.catalogue.specs.Calls.{deleting, anyKit, allKits, almostKits, writing, reading}
 use Rattle.catalogue.specs.Demands.{Question, ValuesFit}
 use Rattle.demands.proofs.Offsets.{fault-near}
 
@@ -51,7 +53,8 @@ abbrev Plain : Case → Type 0
 Plain c = c .value ≡ 0
 
 module _ (B : ℕ) (some-limit : 0 < B) where
-  small-step : (c : Case) (cs : List Case) (v : ℕ) → (c .test ≡ true → c .value < B) → (c .test ≡ false → valueOf (decide cs v) < B) → valueOf (decide (c ∷ cs) v) < B
+  small-step : (c : Case) (cs : List Case) (v : ℕ) → (c .test ≡ true → c .value < B) → (c .test ≡ false → valueOf (decide cs v) < B) →
+      valueOf (decide (c ∷ cs) v) < B
   unfolding decide
   small-step c cs v f g = by-cond (λ (r : Reply). valueOf r < B) (c .test) (refused (c .number) (c .value)) (decide cs v) f g
 
@@ -63,9 +66,11 @@ module _ (B : ℕ) (some-limit : 0 < B) where
   unfolding decide
   none-passes = refl
 
-  small-front : (cs ds : List Case) (v : ℕ) → Every Plain cs → (isRefused (decide cs 0) ≡ false → valueOf (decide ds v) < B) → valueOf (decide (cs ++ ds) v) < B
+  small-front : (cs ds : List Case) (v : ℕ) → Every Plain cs → (isRefused (decide cs 0) ≡ false → valueOf (decide ds v) < B) →
+      valueOf (decide (cs ++ ds) v) < B
   small-front [] ds v none g = g none-passes
-  small-front (c ∷ cs) ds v (also p ps) g = small-step c (cs ++ ds) v (λ t. omega arith) (λ t. small-front cs ds v ps (λ e. g (next-passes c cs t e)))
+  small-front (c ∷ cs) ds v (also p ps) g =
+      small-step c (cs ++ ds) v (λ t. omega arith) (λ t. small-front cs ds v ps (λ e. g (next-passes c cs t e)))
 
 -- Tags
 tag-small : (B : ℕ) (r : List ℕ) (ks : List Kit) → 0 < B → ((k : Kit) → List·Memᴰ k ks → k .tag < B) → tagIn r ks < B
@@ -80,10 +85,18 @@ first-small B [] h f = h
 first-small B (k ∷ ks) h f = f k (List·Memᴰ·head refl)
 
 -- Items one behind the other
-concat-long : {A : Type 0} (f : A → List ℕ) (b : ℕ) (xs : List A) → ((x : A) → List·Memᴰ x xs → length (f x) ≤ b) → length (concat (map f xs)) ≤ length xs * b
+concat-long : {A : Type 0} (f : A → List ℕ) (b : ℕ) (xs : List A) → ((x : A) → List·Memᴰ x xs → length (f x) ≤ b) →
+    length (concat (map f xs)) ≤ length xs * b
 unfolding concat
 concat-long f b [] h = omega arith
-concat-long f b (x ∷ xs) h = omega (arith, length-append (f x) (concat (map f xs)), h x (List·Memᴰ·head refl), concat-long f b xs (λ y m. h y (List·Memᴰ·tail m)), suc-mul (length xs) b)
+concat-long f b (x ∷ xs) h =
+    omega (
+      arith,
+      length-append (f x) (concat (map f xs)),
+      h x (List·Memᴰ·head refl),
+      concat-long f b xs (λ y m. h y (List·Memᴰ·tail m)),
+      suc-mul (length xs) b,
+    )
 
 -- Beginnings
 beginnings-long : (r : List ℕ) → length (beginnings r) ≡ length r
@@ -94,18 +107,31 @@ beginnings-long (x ∷ r) = ap suc (length-map (beginnings r) (_∷_ x) ∙ begi
 add-long : (bs seen : List (List ℕ)) → length (addNew bs seen) ≤ length bs + length seen
 unfolding addNew
 add-long [] seen = omega arith
-add-long (b ∷ bs) seen = by-cond (λ (l : List (List ℕ)). length (addNew bs l) ≤ suc (length bs) + length seen) (anyb (eqList b) seen) seen (b ∷ seen) (λ _. omega (arith, add-long bs seen)) (λ _. omega (arith, add-long bs (b ∷ seen)))
+add-long (b ∷ bs) seen =
+    by-cond (λ (l : List (List ℕ)). length (addNew bs l) ≤ suc (length bs) + length seen) (anyb (eqList b) seen) seen (b ∷ seen)
+    (λ _. omega (arith, add-long bs seen)) (λ _. omega (arith, add-long bs (b ∷ seen)))
 
 all-long : (n : ℕ) (ks : List Kit) → ((k : Kit) → List·Memᴰ k ks → length (k .row) ≤ n) → length (allBeginnings ks) ≤ length ks * n
 unfolding allBeginnings
 all-long n [] h = omega arith
-all-long n (k ∷ ks) h = omega (arith, add-long (beginnings (k .row)) (allBeginnings ks), beginnings-long (k .row), h k (List·Memᴰ·head refl), all-long n ks (λ y m. h y (List·Memᴰ·tail m)), suc-mul (length ks) n)
+all-long n (k ∷ ks) h =
+    omega (
+      arith,
+      add-long (beginnings (k .row)) (allBeginnings ks),
+      beginnings-long (k .row),
+      h k (List·Memᴰ·head refl),
+      all-long n ks
+          (λ y m. h y (List·Memᴰ·tail m)),
+      suc-mul (length ks) n,
+    )
 
 -- Places
 place-most : (k : ℕ) (n : List ℕ) (ps : List (List ℕ)) → placeFrom k n ps ≤ k + length ps
 unfolding placeFrom
 place-most k n [] = omega arith
-place-most k n (p ∷ ps) = by-cond (λ (x : ℕ). x ≤ k + suc (length ps)) (eqList n p) k (placeFrom (suc k) n ps) (λ _. omega arith) (λ _. omega (arith, place-most (suc k) n ps))
+place-most k n (p ∷ ps) =
+    by-cond (λ (x : ℕ). x ≤ k + suc (length ps)) (eqList n p) k (placeFrom (suc k) n ps) (λ _. omega arith)
+    (λ _. omega (arith, place-most (suc k) n ps))
 
 -- The refusals of what is lent
 lengths-plain : (T : Tables) → Every Plain (lengths T)
@@ -156,7 +182,8 @@ small-end : (cs : List Case) (v : ℕ) → Every Plain cs → (isRefused (decide
 small-end cs v p f = rw append-nil at (small-front limit some-limit cs [] v p (λ e. end-small v (f e)))
 
 -- an output that is set down
-down-small : (cs : List Case) (xs o : List ℕ) → Every Plain cs → (isRefused (decide cs 0) ≡ false → length xs < limit) → valueOf (answer (setDown cs xs o)) < limit
+down-small : (cs : List Case) (xs o : List ℕ) → Every Plain cs → (isRefused (decide cs 0) ≡ false → length xs < limit) →
+    valueOf (answer (setDown cs xs o)) < limit
 unfolding answer setDown
 down-small cs xs o p f = small-front limit some-limit cs _ _ p (λ e. small-step limit some-limit _ _ _ (λ _. f e) (λ _. end-small _ (f e)))
 
@@ -183,7 +210,9 @@ module _ (n R : List ℕ) where
 
 showing-small : (p : ℕ) (R : List ℕ) → valueOf (answer (showing p R)) < limit
 unfolding answer showing
-showing-small p R = small-front limit some-limit (lentRegister R) _ _ (register-plain R) (λ e. small-step limit some-limit _ _ _ (λ _. some-limit) (λ _. end-small _ some-limit))
+showing-small p R =
+    small-front limit some-limit (lentRegister R) _ _ (register-plain R)
+    (λ e. small-step limit some-limit _ _ _ (λ _. some-limit) (λ _. end-small _ some-limit))
 
 -- Tables that are lent, of 16-bit words
 module _ (R N : List ℕ) (words : (i : ℕ) → getD N i 0 < twoLimit) where
@@ -226,19 +255,27 @@ module _ (R N : List ℕ) (words : (i : ℕ) → getD N i 0 < twoLimit) where
 
   finding-small : (l : List ℕ) → valueOf (answer (finding l (tables R N))) < limit
   unfolding answer finding missingRefusals
-  finding-small l = small-front limit some-limit (lentList T l) _ _ (list-plain T l) (λ e. small-step limit some-limit _ _ _ (λ _. some-limit) (λ _. end-small _ (tag-here (list-lent l e) (units l))))
+  finding-small l =
+      small-front limit some-limit (lentList T l) _ _ (list-plain T l)
+      (λ e. small-step limit some-limit _ _ _ (λ _. some-limit) (λ _. end-small _ (tag-here (list-lent l e) (units l))))
 
   deleting-small : (l : List ℕ) → valueOf (answer (deleting l (tables R N))) < limit
   unfolding answer deleting missingRefusals
-  deleting-small l = small-front limit some-limit (lentList T l) _ _ (list-plain T l) (λ e. small-step limit some-limit _ _ _ (λ _. some-limit) (λ _. end-small _ (tag-here (list-lent l e) (units l))))
+  deleting-small l =
+      small-front limit some-limit (lentList T l) _ _ (list-plain T l)
+      (λ e. small-step limit some-limit _ _ _ (λ _. some-limit) (λ _. end-small _ (tag-here (list-lent l e) (units l))))
 
   any-small : (question : Question) (l : List ℕ) → valueOf (answer (anyKit question l (tables R N))) < limit
   unfolding answer anyKit anyOf
-  any-small question l = small-end (lentList T l) _ (list-plain T l) (λ e. first-small limit (fitting question l N) some-limit (fitting-here (list-lent l e) question l))
+  any-small question l =
+      small-end (lentList T l) _ (list-plain T l)
+      (λ e. first-small limit (fitting question l N) some-limit (fitting-here (list-lent l e) question l))
 
-  few-fitting : (question : Question) (l : List ℕ) → isRefused (decide (lentList T l) 0) ≡ false → length (tagsOf (fitting question l N)) < limit
+  few-fitting : (question : Question) (l : List ℕ) → isRefused (decide (lentList T l) 0) ≡ false →
+      length (tagsOf (fitting question l N)) < limit
   unfolding fitting
-  few-fitting question l e = omega (arith, tags-long (fitting question l N), keep-short (question (units l)) (held N), kits-here (list-lent l e))
+  few-fitting question l e =
+      omega (arith, tags-long (fitting question l N), keep-short (question (units l)) (held N), kits-here (list-lent l e))
 
   all-small : (question : Question) (l o : List ℕ) → valueOf (answer (allKits question l (tables R N) o)) < limit
   unfolding allKits allOf fitting
@@ -258,26 +295,41 @@ module _ (R N : List ℕ) (words : (i : ℕ) → getD N i 0 < twoLimit) where
 -- A sheet that fits the format
 module _ (c : Contents) (F : Fits c) where
   row-short : (k : Kit) → List·Memᴰ k (c .kits) → GoodRow mostPlace (k .row)
-  row-short k m = kit-fits (length (c .parts)) mostPlace k (F .few-parts) (allb-mem (goodKit (length (c .parts))) (c .kits) k (F .kits-good) m) .row
+  row-short k m =
+      kit-fits (length (c .parts)) mostPlace k (F .few-parts) (allb-mem (goodKit (length (c .parts))) (c .kits) k (F .kits-good) m) .row
 
   numbers-long : length (numberItems (c .parts)) ≤ length (c .parts) * 25
   unfolding numberItems
-  numbers-long = concat-long numberItem 25 (c .parts) (λ p m. omega (arith, number-size p, number-short p (allb-mem goodNumber (c .parts) p (F .numbers-good) m)))
+  numbers-long =
+      concat-long numberItem 25 (c .parts)
+      (λ p m. omega (arith, number-size p, number-short p (allb-mem goodNumber (c .parts) p (F .numbers-good) m)))
 
   records-long : length (recordItems placeBytes (c .kits)) ≤ length (c .kits) * 131
   unfolding recordItems
-  records-long = concat-long (recordItem placeBytes) 131 (c .kits) (λ k m. omega (arith, record-size (k .row) (k .tag) (row-short k m), lines-few (k .row), row-short k m .short))
+  records-long =
+      concat-long (recordItem placeBytes) 131 (c .kits)
+      (λ k m. omega (arith, record-size (k .row) (k .tag) (row-short k m), lines-few (k .row), row-short k m .short))
 
   sheet-small : length (encode c) < limit
   unfolding encode inBytes
-  sheet-small = omega (arith, length-append (numberItems (c .parts)) (two (length (c .kits)) ++ recordItems placeBytes (c .kits)), numbers-long, records-long, F .few-parts, F .few-kits)
+  sheet-small =
+      omega (
+        arith,
+        length-append (numberItems (c .parts)) (two (length (c .kits)) ++ recordItems placeBytes (c .kits)),
+        numbers-long,
+        records-long,
+        F .few-parts,
+        F .few-kits,
+      )
 
   nodes-small : nodesNeeded c < limit
   nodes-small = omega (arith, all-long 64 (c .kits) (λ k m. row-short k m .short), F .few-kits)
 
 writing-small : (R N : List ℕ) (words : (i : ℕ) → getD N i 0 < twoLimit) (o : List ℕ) → valueOf (answer (writing (tables R N) o)) < limit
 unfolding writing
-writing-small R N words o = down-small (lentBoth (tables R N)) _ o (both-plain (tables R N)) (λ e. sheet-small (contentsOf R N) (fits-here R N words (both-passed R N e)))
+writing-small R N words o =
+    down-small (lentBoth (tables R N)) _ o (both-plain (tables R N))
+    (λ e. sheet-small (contentsOf R N) (fits-here R N words (both-passed R N e)))
 
 reading-small : (s : List ℕ) (T : Tables) → Bytes s → valueOf (answer (reading s T)) < limit
 unfolding answer reading sheetRefusals roomRefusals

@@ -19,7 +19,12 @@ inserted t (r ∷ rs) = insertKit (listOf r) t ∷ inserted (suc t) rs
 
 -- the tables of a catalogue of the parts A, B, C and four nodes, with kits that have the tags 1, 2, ..
 unfoldable pub holding : List (List ℕ) → Tables
-holding rs = tablesOf (record { slots = 3; room = 4; calls = registerPart (65 ∷ []) ∷ registerPart (66 ∷ []) ∷ registerPart (67 ∷ []) ∷ inserted 1 rs })
+holding rs =
+    tablesOf (record {
+      slots = 3;
+      room = 4;
+      calls = registerPart (65 ∷ []) ∷ registerPart (66 ∷ []) ∷ registerPart (67 ∷ []) ∷ inserted 1 rs;
+    })
 
 -- all kits that answer a question on some units: the reply, and an output of two places
 unfoldable pub asked : Question → List (List ℕ) → List ℕ → Reply × List ℕ
@@ -60,7 +65,8 @@ askedAlmost d rs r =
     let p = almostKits d (listOf r) (holding rs) o in
     (answer p, memory p o)
 
--- (1) and (1, 1, 1) lack one unit and three, and three units too many of another part pay for none; (1, 1) and (1, 3) lack one each, whichever part
+-- (1) and (1, 1, 1) lack one unit and three, and three units too many of another part pay for none; (1, 1) and (1, 3) lack one each,
+-- whichever part
 -- it is. Proof: proofs/ShortCases, `almost-cases`
 abbrev pub AlmostCases : Type 0
 AlmostCases =
@@ -104,4 +110,6 @@ DeskExample =
     × (memory (allKits isWithin (1 ∷ 1 ∷ 2 ∷ 4 ∷ []) (desk entries) (0 ∷ 0 ∷ 0 ∷ [])) (0 ∷ 0 ∷ 0 ∷ []) ≡ 9 ∷ 5 ∷ 0 ∷ [])
     × (replies later (desk entries) ≡ done 7 ∷ done 0 ∷ done 7 ∷ refused 4 0 ∷ [])
     × (answer (writing (desk (entries ++ later)) (replicate 34 0)) ≡ done 34)
-    × (memory (writing (desk (entries ++ later)) (replicate 34 0)) (replicate 34 0) ≡ 75 ∷ 73 ∷ 84 ∷ 0 ∷ 1 ∷ 0 ∷ 3 ∷ 5 ∷ 48 ∷ 48 ∷ 55 ∷ 52 ∷ 49 ∷ 3 ∷ 55 ∷ 52 ∷ 49 ∷ 4 ∷ 52 ∷ 48 ∷ 49 ∷ 54 ∷ 0 ∷ 2 ∷ 0 ∷ 9 ∷ 1 ∷ 1 ∷ 1 ∷ 0 ∷ 5 ∷ 1 ∷ 2 ∷ 1 ∷ [])
+    × (memory (writing (desk (entries ++ later)) (replicate 34 0))
+    (replicate 34 0) ≡ 75 ∷ 73 ∷ 84 ∷ 0 ∷ 1 ∷ 0 ∷ 3 ∷ 5 ∷ 48 ∷ 48 ∷ 55 ∷ 52 ∷ 49 ∷ 3 ∷ 55 ∷ 52 ∷ 49 ∷ 4 ∷ 52 ∷ 48 ∷ 49 ∷ 54 ∷ 0 ∷ 2 ∷ 0 ∷ 9
+    ∷ 1 ∷ 1 ∷ 1 ∷ 0 ∷ 5 ∷ 1 ∷ 2 ∷ 1 ∷ [])

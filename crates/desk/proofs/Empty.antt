@@ -29,7 +29,12 @@ module _ (n : ℕ) (h : 1 ≤ n) (g : n ≤ mostParts) where
   unfolding registerLength every
   fits =
       let l = long in
-      rw (eq-eqb (length zeros % 32) 0 (omega arith), le-leb 32 (length zeros) (omega arith), le-leb (length zeros) (mostParts * slotBytes) (omega arith))
+      rw (
+        eq-eqb (length zeros % 32) 0 (omega arith),
+        le-leb 32 (length zeros) (omega arith),
+        le-leb (length zeros) (mostParts * slotBytes)
+            (omega arith),
+      )
 
   pub empty-ready : Ready (replicate (n * slotBytes) 0)
   unfolding zeros

@@ -15,7 +15,9 @@ use Rattle.desk_text.specs.Inner.{upTo, EndOf}
 use Rattle.desk_text.specs.Lines.{lineFeed, longestLine}
 use Rattle.desk_input.specs.Inner.{Kept, mostKept, keptOf}
 use Rattle.desk_input.specs.Lines.{allButLast, lastOf, ended, unfinished, lastLine, linesOf, answered}
-use Rattle.desk_input.proofs.Cutting.{Clean, clean-none, clean-append, firstLine, behindFirst, goes-on-ended, goes-on-unfinished, ends-ended, ends-unfinished, kept-clean, unfinished-clean, ended-on, unfinished-on, answered-append, piece-answers, piece-keeps, last-answers}
+use Rattle.desk_input.proofs.Cutting.{Clean, clean-none, clean-append, firstLine, behindFirst, goes-on-ended, goes-on-unfinished}
+use Rattle.desk_input.proofs.Cutting.{ends-ended, ends-unfinished, kept-clean, unfinished-clean, ended-on, unfinished-on, answered-append}
+use Rattle.desk_input.proofs.Cutting.{piece-answers, piece-keeps, last-answers}
 use Rattle.desk_lines.specs.Desk.{leftBy}
 use Rattle.desk_lines.specs.Inner.{Room}
 use Rattle.desk_lines.proofs.Left.{overlong-leaves}
@@ -52,7 +54,8 @@ module _ (old : List ℕ) (n : ℕ) (bs : List ℕ) (r : ℕ) (new : List ℕ) (
   unfolding keptOf
   kept-holds =
       let i : length (take n old) ≡ n = length-take-le n old (K .inside) in
-      let a : take r new ≡ take n old ++ take (length old - n) bs = ap (take r) (k .lies) ∙ ap (λ m. take m (laid old n (take (length old - n) bs))) (k .now-kept) ∙ take-laid old n (take (length old - n) bs) fits in
+      let a : take r new ≡ take n old ++ take (length old - n) bs = ap (take r) (k .lies) ∙ ap
+      (λ m. take m (laid old n (take (length old - n) bs))) (k .now-kept) ∙ take-laid old n (take (length old - n) bs) fits in
       let b : length (take n old) + (length old - n) ≡ mostKept = omega (arith, K .size, K .inside) in
       a ∙ sym (take-append-add (take n old) bs (length old - n)) ∙ ap (λ m. take m (take n old ++ bs)) b
 
@@ -64,10 +67,12 @@ pub record Underway (k p : List ℕ) (T : Tables) (kept places sheet out : List 
   pub left : keptOf (unfinished (take n kept ++ drop at p)) ≡ keptOf (unfinished (k ++ p))
   pub lines : answered leftBy (ended (take n kept ++ drop at p)) U ≡ answered leftBy (ended (k ++ p)) T
 
-pub starts : (p : List ℕ) (T : Tables) (kept places sheet out : List ℕ) (n : ℕ) → Keeps kept n → AtHand T places sheet out → Underway (take n kept) p T kept places sheet out n 0 T
+pub starts : (p : List ℕ) (T : Tables) (kept places sheet out : List ℕ) (n : ℕ) → Keeps kept n → AtHand T places sheet out →
+    Underway (take n kept) p T kept places sheet out n 0 T
 starts p T kept places sheet out n K H = record { keeps = K; hand = H; within = omega arith; left = refl; lines = refl }
 
-module _ {k p : List ℕ} {T : Tables} {kept places sheet out : List ℕ} {n at : ℕ} {U : Tables} (W : Underway k p T kept places sheet out n at U) where
+module _ {k p : List ℕ} {T : Tables} {kept places sheet out : List ℕ} {n at : ℕ} {U : Tables}
+    (W : Underway k p T kept places sheet out n at U) where
   -- nothing is left of the piece
   pub piece-done : length p ≤ at → Takes k p T n kept U
   unfolding answered keptOf
@@ -78,7 +83,12 @@ module _ {k p : List ℕ} {T : Tables} {kept places sheet out : List ℕ} {n at 
       let m : length K ≤ mostKept = omega (arith, length-take-le n kept (W .keeps .inside), W .keeps .size, W .keeps .inside) in
       let u : unfinished (K ++ drop at p) ≡ K = ap (λ r. unfinished (K ++ r)) d ∙ goes-on-unfinished K [] C clean-none ∙ append-nil K in
       let e : ended (K ++ drop at p) ≡ [] = ap (λ r. ended (K ++ r)) d ∙ goes-on-ended K [] C clean-none in
-      record { keeps = W .keeps; left = sym (take-all mostKept K m) ∙ ap keptOf (sym u) ∙ W .left; tables = ap (λ ls. answered leftBy ls U) (sym e) ∙ W .lines }
+      record {
+        keeps = W .keeps;
+        left = sym (take-all mostKept K m) ∙ ap keptOf (sym u) ∙ W .left;
+        tables = ap (λ ls. answered leftBy ls U)
+            (sym e) ∙ W .lines;
+      }
 
   -- the rest of the piece, up to where its first line ends
   module _ (end r : ℕ) (new : List ℕ) (e : EndOf p at lineFeed end) (N : Kept kept n (take (end - at) (drop at p)) r new) where
@@ -100,20 +110,23 @@ module _ {k p : List ℕ} {T : Tables} {kept places sheet out : List ℕ} {n at 
         let t : take r new ≡ keptOf (K ++ drop at p) = kept-holds kept n b r new (W .keeps) N ∙ ap (λ x. keptOf (K ++ x)) a in
         let c : Clean lineFeed (keptOf (K ++ drop at p)) = kept-clean (K ++ drop at p) (clean-append lineFeed K (drop at p) C D) in
         record {
-          keeps = record { size = kept-size kept n b r new (W .keeps) N; inside = kept-inside kept n b r new (W .keeps) N; unended = rw t c };
+          keeps =
+              record { size = kept-size kept n b r new (W .keeps) N; inside = kept-inside kept n b r new (W .keeps) N; unended = rw t c };
           left = t ∙ ap keptOf (sym (goes-on-unfinished K (drop at p) C D)) ∙ W .left;
           tables = ap (λ ls. answered leftBy ls U) (sym (goes-on-ended K (drop at p) C D)) ∙ W .lines;
         }
 
     -- it ends a line, which is answered
-    pub line-ends : (places′ sheet′ out′ : List ℕ) (Z : Tables) → end < length p → AtHand Z places′ sheet′ out′ → Z ≡ leftBy (take r new) U → Underway k p T new places′ sheet′ out′ 0 (end + 1) Z
+    pub line-ends : (places′ sheet′ out′ : List ℕ) (Z : Tables) → end < length p → AtHand Z places′ sheet′ out′ →
+        Z ≡ leftBy (take r new) U → Underway k p T new places′ sheet′ out′ 0 (end + 1) Z
     unfolding answered
     line-ends places′ sheet′ out′ Z h H v =
         let K = take n kept in
         let b = take (end - at) (drop at p) in
         let C : Clean lineFeed K = W .keeps .unended in
         let s : upTo lineFeed (drop at p) < length (drop at p) = omega (arith, up-to, size-rest, e .low) in
-        let q : behindFirst (drop at p) ≡ drop (end + 1) p = drop-drop (suc (upTo lineFeed (drop at p))) at p ∙ ap (λ m. drop m p) (let z : at + suc (upTo lineFeed (drop at p)) ≡ end + 1 = omega (arith, up-to, e .low) in z) in
+        let q : behindFirst (drop at p) ≡ drop (end + 1) p = drop-drop (suc (upTo lineFeed (drop at p))) at p ∙ ap (λ m. drop m p)
+        (let z : at + suc (upTo lineFeed (drop at p)) ≡ end + 1 = omega (arith, up-to, e .low) in z) in
         let f : firstLine K (drop at p) ≡ K ++ b = ap (λ m. K ++ take m (drop at p)) up-to in
         let w : Z ≡ leftBy (firstLine K (drop at p)) U =
         v ∙ ap (λ l. leftBy l U) (kept-holds kept n b r new (W .keeps) N) ∙ left-by-kept (K ++ b) U ∙ ap (λ l. leftBy l U) (sym f) in
@@ -122,7 +135,9 @@ module _ {k p : List ℕ} {T : Tables} {kept places sheet out : List ℕ} {n at 
           hand = H;
           within = omega arith;
           left = ap (λ x. keptOf (unfinished x)) (sym q) ∙ ap keptOf (sym (ends-unfinished K (drop at p) C s)) ∙ W .left;
-          lines = ap (λ x. answered leftBy (ended x) Z) (sym q) ∙ ap (answered leftBy (ended (behindFirst (drop at p)))) w ∙ ap (λ ls. answered leftBy ls U) (sym (ends-ended K (drop at p) C s)) ∙ W .lines;
+          lines =
+              ap (λ x. answered leftBy (ended x) Z) (sym q) ∙ ap (answered leftBy (ended (behindFirst (drop at p)))) w ∙ ap
+              (λ ls. answered leftBy ls U) (sym (ends-ended K (drop at p) C s)) ∙ W .lines;
         }
 
 -- the slices that are lent keep their lengths
@@ -159,7 +174,9 @@ module _ {T : Tables} {kept : List ℕ} {n : ℕ} {U : Tables} (R : Read T kept 
       let c = unfinished-clean s in
       record {
         input = s ++ p;
-        left = t .left ∙ ap (λ k. keptOf (unfinished (k ++ p))) (R .left) ∙ piece-keeps leftBy left-by-kept u p c U ∙ ap keptOf (sym (unfinished-on s p));
+        left =
+            t .left ∙ ap (λ k. keptOf (unfinished (k ++ p))) (R .left) ∙ piece-keeps leftBy left-by-kept u p c U ∙ ap keptOf
+            (sym (unfinished-on s p));
         tables =
             t .tables
             ∙ ap (λ k. answered leftBy (ended (k ++ p)) U) (R .left)

@@ -46,7 +46,8 @@ pub record Keeps (kept : List ℕ) (n : ℕ) : Type 0 where
   pub inside : n ≤ length kept
   pub unended : upTo lineFeed (take n kept) ≡ length (take n kept)
 
--- a piece was taken behind the line k that had not ended: the lines that it ends were answered, and r bytes are kept of the one that it leaves
+-- a piece was taken behind the line k that had not ended: the lines that it ends were answered, and r bytes are kept of the one that it
+-- leaves
 pub record Takes (k piece : List ℕ) (T : Tables) (r : ℕ) (kept : List ℕ) (U : Tables) : Type 0 where
   pub keeps : Keeps kept r
   pub left : take r kept ≡ keptOf (unfinished (k ++ piece))

@@ -58,7 +58,8 @@ clean-append b (x ∷ k) p c d = clean-more b x (k ++ p) (clean-first b x k c) (
 parted-clean : (b : ℕ) (k : List ℕ) → Clean b k → parted b k ≡ k ∷ []
 parted-clean b k c = parted-last b k (omega arith)
 
-parted-behind : (b : ℕ) (k p : List ℕ) → Clean b k → upTo b p < length p → parted b (k ++ p) ≡ (k ++ take (upTo b p) p) ∷ parted b (drop (suc (upTo b p)) p)
+parted-behind : (b : ℕ) (k p : List ℕ) → Clean b k → upTo b p < length p →
+    parted b (k ++ p) ≡ (k ++ take (upTo b p) p) ∷ parted b (drop (suc (upTo b p)) p)
 unfolding parted inFront
 parted-behind b [] p c h = parted-more b p h
 parted-behind b (x ∷ k) p c h = let e = parted-behind b k p (clean-rest b x k c) h in rw (clean-first b x k c, e)
@@ -69,12 +70,14 @@ unfolding parted inFront
 first-there b [] = ([], [], refl)
 first-there b (x ∷ l) = go (eqb x b) (parted b l) (first-there b l)
   where
-    go : (t : Bool) (P : List (List ℕ)) → (s : List ℕ) × (ss : List (List ℕ)) × (P ≡ s ∷ ss) → (s : List ℕ) × (ss : List (List ℕ)) × (cond t ([] ∷ P) (inFront x P) ≡ s ∷ ss)
+    go : (t : Bool) (P : List (List ℕ)) → (s : List ℕ) × (ss : List (List ℕ)) × (P ≡ s ∷ ss) →
+        (s : List ℕ) × (ss : List (List ℕ)) × (cond t ([] ∷ P) (inFront x P) ≡ s ∷ ss)
     go true P (s, ss, e) = ([], P, refl)
     go false P (s, ss, e) = (x ∷ s, ss, rw e)
 
 -- stretches in front of a list that has some
-behind-some : (A : List (List ℕ)) (s : List ℕ) (ss : List (List ℕ)) → (allButLast (A ++ (s ∷ ss)) ≡ A ++ allButLast (s ∷ ss)) × (lastOf (A ++ (s ∷ ss)) ≡ lastOf (s ∷ ss))
+behind-some : (A : List (List ℕ)) (s : List ℕ) (ss : List (List ℕ)) →
+    (allButLast (A ++ (s ∷ ss)) ≡ A ++ allButLast (s ∷ ss)) × (lastOf (A ++ (s ∷ ss)) ≡ lastOf (s ∷ ss))
 unfolding allButLast lastOf
 behind-some [] s ss = (refl, refl)
 behind-some (a ∷ []) s ss = (refl, refl)
@@ -86,8 +89,10 @@ unfolding parted inFront allButLast lastOf
 joined b [] t = refl
 joined b (x ∷ s) t = go (eqb x b) refl (parted b s) (first-there b s) (joined b s t)
   where
-    go : (c : Bool) → eqb x b ≡ c → (P : List (List ℕ)) → (q : List ℕ) × (qs : List (List ℕ)) × (P ≡ q ∷ qs) → parted b (s ++ t) ≡ allButLast P ++ parted b (lastOf P ++ t)
-        → cond c ([] ∷ parted b (s ++ t)) (inFront x (parted b (s ++ t))) ≡ allButLast (cond c ([] ∷ P) (inFront x P)) ++ parted b (lastOf (cond c ([] ∷ P) (inFront x P)) ++ t)
+    go : (c : Bool) → eqb x b ≡ c → (P : List (List ℕ)) → (q : List ℕ) × (qs : List (List ℕ)) × (P ≡ q ∷ qs) →
+        parted b (s ++ t) ≡ allButLast P ++ parted b (lastOf P ++ t)
+        → cond c ([] ∷ parted b (s ++ t)) (inFront x (parted b (s ++ t))) ≡ allButLast (cond c ([] ∷ P) (inFront x P)) ++ parted b
+        (lastOf (cond c ([] ∷ P) (inFront x P)) ++ t)
     go true e P (q, qs, f) h = rw (h, f)
     go false e P (q, [], f) h = rw (h, f, e)
     go false e P (q, r ∷ rs, f) h = rw (h, f)
@@ -98,7 +103,8 @@ unfolding parted inFront lastOf upTo
 last-clean b [] = refl
 last-clean b (x ∷ l) = go (eqb x b) refl (parted b l) (first-there b l) (last-clean b l)
   where
-    go : (c : Bool) → eqb x b ≡ c → (P : List (List ℕ)) → (q : List ℕ) × (qs : List (List ℕ)) × (P ≡ q ∷ qs) → Clean b (lastOf P) → Clean b (lastOf (cond c ([] ∷ P) (inFront x P)))
+    go : (c : Bool) → eqb x b ≡ c → (P : List (List ℕ)) → (q : List ℕ) × (qs : List (List ℕ)) × (P ≡ q ∷ qs) → Clean b (lastOf P) →
+        Clean b (lastOf (cond c ([] ∷ P) (inFront x P)))
     go true e P (q, qs, f) h = let g : Clean b (lastOf (q ∷ qs)) = rw f at h in rw f g
     go false e P (q, [], f) h = let g : Clean b q = rw f at h in rw f (clean-more b x q e g)
     go false e P (q, r ∷ rs, f) h = let g : Clean b (lastOf (r ∷ rs)) = rw f at h in rw f g
@@ -112,19 +118,23 @@ pub ended-on : (s t : List ℕ) → ended (s ++ t) ≡ ended s ++ ended (unfinis
 unfolding ended unfinished
 ended-on s t = go (parted lineFeed (unfinished s ++ t)) (first-there lineFeed (unfinished s ++ t)) (joined lineFeed s t)
   where
-    go : (P : List (List ℕ)) → (q : List ℕ) × (qs : List (List ℕ)) × (P ≡ q ∷ qs) → parted lineFeed (s ++ t) ≡ allButLast (parted lineFeed s) ++ P → allButLast (parted lineFeed (s ++ t)) ≡ allButLast (parted lineFeed s) ++ allButLast P
+    go : (P : List (List ℕ)) → (q : List ℕ) × (qs : List (List ℕ)) × (P ≡ q ∷ qs) →
+        parted lineFeed (s ++ t) ≡ allButLast (parted lineFeed s) ++ P →
+        allButLast (parted lineFeed (s ++ t)) ≡ allButLast (parted lineFeed s) ++ allButLast P
     go P (q, qs, f) h = rw (h, f) (behind-some (allButLast (parted lineFeed s)) q qs .0)
 
 pub unfinished-on : (s t : List ℕ) → unfinished (s ++ t) ≡ unfinished (unfinished s ++ t)
 unfolding unfinished
 unfinished-on s t = go (parted lineFeed (unfinished s ++ t)) (first-there lineFeed (unfinished s ++ t)) (joined lineFeed s t)
   where
-    go : (P : List (List ℕ)) → (q : List ℕ) × (qs : List (List ℕ)) × (P ≡ q ∷ qs) → parted lineFeed (s ++ t) ≡ allButLast (parted lineFeed s) ++ P → lastOf (parted lineFeed (s ++ t)) ≡ lastOf P
+    go : (P : List (List ℕ)) → (q : List ℕ) × (qs : List (List ℕ)) × (P ≡ q ∷ qs) →
+        parted lineFeed (s ++ t) ≡ allButLast (parted lineFeed s) ++ P → lastOf (parted lineFeed (s ++ t)) ≡ lastOf P
     go P (q, qs, f) h = rw (h, f) (behind-some (allButLast (parted lineFeed s)) q qs .1)
 
 lines-on : (s t : List ℕ) → linesOf (s ++ t) ≡ ended s ++ linesOf (unfinished s ++ t)
 unfolding linesOf
-lines-on s t = rw (ended-on s t, unfinished-on s t) (append-assoc (ended s) (ended (unfinished s ++ t)) (lastLine (unfinished (unfinished s ++ t))))
+lines-on s t =
+    rw (ended-on s t, unfinished-on s t) (append-assoc (ended s) (ended (unfinished s ++ t)) (lastLine (unfinished (unfinished s ++ t))))
 
 -- the line that k begins and p ends, and what p has behind it
 abbrev pub firstLine : List ℕ → List ℕ → List ℕ
@@ -149,14 +159,16 @@ module _ (k p : List ℕ) (c : Clean lineFeed k) where
     unfolding ended allButLast
     ends-ended = go (parted lineFeed (behindFirst p)) (first-there lineFeed (behindFirst p)) (parted-behind lineFeed k p c h)
       where
-        go : (P : List (List ℕ)) → (q : List ℕ) × (qs : List (List ℕ)) × (P ≡ q ∷ qs) → parted lineFeed (k ++ p) ≡ firstLine k p ∷ P → allButLast (parted lineFeed (k ++ p)) ≡ firstLine k p ∷ allButLast P
+        go : (P : List (List ℕ)) → (q : List ℕ) × (qs : List (List ℕ)) × (P ≡ q ∷ qs) → parted lineFeed (k ++ p) ≡ firstLine k p ∷ P →
+            allButLast (parted lineFeed (k ++ p)) ≡ firstLine k p ∷ allButLast P
         go P (q, qs, f) e = rw (e, f)
 
     pub ends-unfinished : unfinished (k ++ p) ≡ unfinished (behindFirst p)
     unfolding unfinished lastOf
     ends-unfinished = go (parted lineFeed (behindFirst p)) (first-there lineFeed (behindFirst p)) (parted-behind lineFeed k p c h)
       where
-        go : (P : List (List ℕ)) → (q : List ℕ) × (qs : List (List ℕ)) × (P ≡ q ∷ qs) → parted lineFeed (k ++ p) ≡ firstLine k p ∷ P → lastOf (parted lineFeed (k ++ p)) ≡ lastOf P
+        go : (P : List (List ℕ)) → (q : List ℕ) × (qs : List (List ℕ)) × (P ≡ q ∷ qs) → parted lineFeed (k ++ p) ≡ firstLine k p ∷ P →
+            lastOf (parted lineFeed (k ++ p)) ≡ lastOf P
         go P (q, qs, f) e = rw (e, f)
 
 lines-clean : (k : List ℕ) → Clean lineFeed k → linesOf k ≡ lastLine k
@@ -181,7 +193,8 @@ unfolding keptOf
 kept-clean k c = clean-take lineFeed mostKept k c
 
 -- lines answered: f looks at no more of a line than what is kept of it
-pub answered-append : {A : Type 0} (f : List ℕ → A → A) (ls ms : List (List ℕ)) (a : A) → answered f (ls ++ ms) a ≡ answered f ms (answered f ls a)
+pub answered-append : {A : Type 0} (f : List ℕ → A → A) (ls ms : List (List ℕ)) (a : A) →
+    answered f (ls ++ ms) a ≡ answered f ms (answered f ls a)
 unfolding answered
 answered-append f [] ms a = refl
 answered-append f (l ∷ ls) ms a = answered-append f ls ms (f l a)
@@ -196,7 +209,8 @@ module _ {A : Type 0} (f : List ℕ → A → A) (looks : (l : List ℕ) (a : A)
     unfolding answered
     piece-answers = go (below-or (upTo lineFeed p) (length p))
       where
-        go : (upTo lineFeed p < length p) ⊎ (length p ≤ upTo lineFeed p) → answered f (ended (keptOf k ++ p)) a ≡ answered f (ended (k ++ p)) a
+        go : (upTo lineFeed p < length p) ⊎ (length p ≤ upTo lineFeed p) →
+            answered f (ended (keptOf k ++ p)) a ≡ answered f (ended (k ++ p)) a
         go (inl h) =
             ap (λ ls. answered f ls a) (ends-ended (keptOf k) p (kept-clean k c) h)
             ∙ ap (answered f (ended (behindFirst p))) (kept-answers k (take (upTo lineFeed p) p) a)
@@ -208,7 +222,8 @@ module _ {A : Type 0} (f : List ℕ → A → A) (looks : (l : List ℕ) (a : A)
     pub piece-keeps : keptOf (unfinished (keptOf k ++ p)) ≡ keptOf (unfinished (k ++ p))
     piece-keeps = go (below-or (upTo lineFeed p) (length p))
       where
-        go : (upTo lineFeed p < length p) ⊎ (length p ≤ upTo lineFeed p) → keptOf (unfinished (keptOf k ++ p)) ≡ keptOf (unfinished (k ++ p))
+        go : (upTo lineFeed p < length p) ⊎ (length p ≤ upTo lineFeed p) →
+            keptOf (unfinished (keptOf k ++ p)) ≡ keptOf (unfinished (k ++ p))
         go (inl h) = ap keptOf (ends-unfinished (keptOf k) p (kept-clean k c) h ∙ sym (ends-unfinished k p c h))
         go (inr h) =
             let d : Clean lineFeed p = omega (arith, upTo-inside lineFeed p) in
@@ -219,7 +234,8 @@ module _ {A : Type 0} (f : List ℕ → A → A) (looks : (l : List ℕ) (a : A)
   last-answers [] a = refl
   last-answers (x ∷ k) a = looks (x ∷ k) a
 
-  taken-behind : (ps : List (List ℕ)) (k : List ℕ) → Clean lineFeed k → (a : A) → taken f ps (keptOf k) a ≡ answered f (linesOf (k ++ concat ps)) a
+  taken-behind : (ps : List (List ℕ)) (k : List ℕ) → Clean lineFeed k → (a : A) →
+      taken f ps (keptOf k) a ≡ answered f (linesOf (k ++ concat ps)) a
   unfolding taken concat
   taken-behind [] k c a = last-answers k a ∙ ap (λ ls. answered f ls a) (sym (lines-clean k c) ∙ ap linesOf (sym (append-nil k)))
   taken-behind (p ∷ ps) k c a =

@@ -18,7 +18,11 @@ module _ (old : List ℕ) (n : ℕ) (bs : List ℕ) where
     pub kept-full : length old - n < length bs → new ≡ laid old n (take (length old - n) bs) → Kept old n bs (length new) new
     kept-full g e =
         let r = room-length g in
-        record { now-kept = ap length e ∙ length-laid old n (take (length old - n) bs) (omega arith) ∙ (let q : length old ≡ n + length (take (length old - n) bs) = omega arith in q); lies = e }
+        record {
+          now-kept = ap length e ∙ length-laid old n (take (length old - n) bs) (omega arith)
+              ∙ (let q : length old ≡ n + length (take (length old - n) bs) = omega arith in q);
+          lies = e;
+        }
 
     pub kept-all : length bs ≤ length old - n → new ≡ laid old n bs → Kept old n bs (n + length bs) new
     kept-all g e = let t = take-all (length old - n) bs g in record { now-kept = rw t; lies = rw t e }

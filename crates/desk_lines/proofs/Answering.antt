@@ -74,14 +74,17 @@ module _ (cs : List Case) (xs o : List ℕ) where
       go (done v) e = set-down-done v e
 
 -- what an answer says that it has set down, as a function that was lent the output promises it
-promised-inside : (p : Plan (List ℕ)) (o : List ℕ) (a : Reply) (m : List ℕ) → setDownBy (answer p) ≤ length (memory p o) → Promise p o a m → setDownBy a ≤ length m
+promised-inside : (p : Plan (List ℕ)) (o : List ℕ) (a : Reply) (m : List ℕ) → setDownBy (answer p) ≤ length (memory p o) → Promise p o a m →
+    setDownBy a ≤ length m
 promised-inside p o a m h q = rw (q .answers, q .lent) h
 
-pub within-inside : (l : List ℕ) (T : Tables) (o : List ℕ) (a : Reply) (m : List ℕ) → Promise (allKits isWithin l T o) o a m → setDownBy a ≤ length m
+pub within-inside : (l : List ℕ) (T : Tables) (o : List ℕ) (a : Reply) (m : List ℕ) → Promise (allKits isWithin l T o) o a m →
+    setDownBy a ≤ length m
 unfolding allKits
 within-inside l T o a m q = promised-inside _ o a m (set-down-inside _ _ o) q
 
-pub containing-inside : (l : List ℕ) (T : Tables) (o : List ℕ) (a : Reply) (m : List ℕ) → Promise (allKits isContaining l T o) o a m → setDownBy a ≤ length m
+pub containing-inside : (l : List ℕ) (T : Tables) (o : List ℕ) (a : Reply) (m : List ℕ) → Promise (allKits isContaining l T o) o a m →
+    setDownBy a ≤ length m
 unfolding allKits
 containing-inside l T o a m q = promised-inside _ o a m (set-down-inside _ _ o) q
 
@@ -90,7 +93,8 @@ unfolding writing
 written-inside T o a m q = promised-inside _ o a m (set-down-inside _ _ o) q
 
 -- the reply to a call that sets something down
-pub shown-put : {old new : List ℕ} {r : ℕ} (x : ℕ) (print : List ℕ → List ℕ) (p : Plan (List ℕ)) (o : List ℕ) (a : Reply) (m : List ℕ) → Promise p o a m → Put old 0 (printed x print a m) r new → Put old 0 (shown x print p o) r new
+pub shown-put : {old new : List ℕ} {r : ℕ} (x : ℕ) (print : List ℕ → List ℕ) (p : Plan (List ℕ)) (o : List ℕ) (a : Reply) (m : List ℕ) →
+    Promise p o a m → Put old 0 (printed x print a m) r new → Put old 0 (shown x print p o) r new
 unfolding shown
 shown-put x print p o a m q h = rw (← q .answers, ← q .lent) h
 
@@ -101,7 +105,8 @@ leaves-same (refused n v) m = refl
 
 -- the reply to a call on the tables
 module _ {old new : List ℕ} {r : ℕ} (x : ℕ) (T : Tables) where
-  pub called-put : (p : Plan Tables) (a : Reply) (U : Tables) → Promise p T a U → Put old 0 (replyLine x (numberOf a) (valueOf a) []) r new → Answers (called x p T) old r new U
+  pub called-put : (p : Plan Tables) (a : Reply) (U : Tables) → Promise p T a U →
+      Put old 0 (replyLine x (numberOf a) (valueOf a) []) r new → Answers (called x p T) old r new U
   unfolding called
   called-put p a U q h = record { put = rw (← q .answers) h; left = q .lent }
 
@@ -128,16 +133,23 @@ unfolding leaves
 on-register (done v) R M N = refl
 on-register (refused n v) R M N = refl
 
-pub register-put : {old new : List ℕ} {r : ℕ} (l R N n : List ℕ) (a : Reply) (M : List ℕ) → n ≡ getD (drop 1 (fieldsOf l)) 0 [] → Promise (registering n R) R a M
-    → Put old 0 (replyLine letter.registers (numberOf a) (valueOf a) []) r new → Answers (registerLine l (tables R N)) old r new (tables M N)
+pub register-put : {old new : List ℕ} {r : ℕ} (l R N n : List ℕ) (a : Reply) (M : List ℕ) → n ≡ getD (drop 1 (fieldsOf l)) 0 [] →
+    Promise (registering n R) R a M
+    → Put old 0 (replyLine letter.registers (numberOf a) (valueOf a) []) r new → Answers (registerLine l (tables R N)) old r new
+    (tables M N)
 unfolding registerLine memory answer
 register-put l R N n a M e q h =
     called-put letter.registers (tables R N) (onRegister (tables R N) (registering (getD (drop 1 (fieldsOf l)) 0 []) R)) a (tables M N)
-    (record { answers = rw (← e) (q .answers); lent = rw (← e) (ap (λ m. tables m N) (q .lent) ∙ sym (on-register (answer (registering n R)) R (registering n R .after) N)) })
+    (record {
+      answers = rw (← e) (q .answers);
+      lent = rw (← e)
+          (ap (λ m. tables m N) (q .lent) ∙ sym (on-register (answer (registering n R)) R (registering n R .after) N));
+    })
     h
 
 -- a list that was read, n words of it, or a lookup that was refused
-module _ {old new : List ℕ} {r : ℕ} (x : ℕ) (T : Tables) (asks : List ℕ → Answered) (res : Reply) (out : List ℕ) (t : Typed) (s : said res out ≡ t) where
+module _ {old new : List ℕ} {r : ℕ} (x : ℕ) (T : Tables) (asks : List ℕ → Answered) (res : Reply) (out : List ℕ) (t : Typed)
+    (s : said res out ≡ t) where
   pub with-typed : (n : ℕ) (U : Tables) → n ≡ valueOf res → isRefused res ≡ false → Answers (asks (take n out)) old r new U →
       Answers (withList x T asks t) old r new U
   unfolding withList
@@ -145,7 +157,8 @@ module _ {old new : List ℕ} {r : ℕ} (x : ℕ) (T : Tables) (asks : List ℕ 
       let q : t ≡ typed (take n out) = sym s ∙ ap (λ (z : Reply). said z out) (passed-done res e) ∙ ap (λ k. typed (take k out)) (sym f) in
       rw q h
 
-  pub with-stopped : isRefused res ≡ true → Put old 0 (replyLine x (numberOf res) (valueOf res) []) r new → Answers (withList x T asks t) old r new T
+  pub with-stopped : isRefused res ≡ true → Put old 0 (replyLine x (numberOf res) (valueOf res) []) r new →
+      Answers (withList x T asks t) old r new T
   unfolding withList
   with-stopped e h =
       let q : t ≡ stopped (numberOf res) (valueOf res) = sym s ∙ ap (λ (z : Reply). said z out) (refused-says res e) in
@@ -153,22 +166,28 @@ module _ {old new : List ℕ} {r : ℕ} (x : ℕ) (T : Tables) (asks : List ℕ 
 
 -- what is asked of a list, by the letter
 module _ {old new : List ℕ} {r : ℕ} (x : ℕ) (o : List ℕ) (T : Tables) (l : List ℕ) (a : Reply) where
-  pub asked-finds : x ≡ letter.finds → a ≡ answer (finding l T) → Put old 0 (replyLine x (numberOf a) (valueOf a) []) r new → Answers (asked x o T l) old r new T
+  pub asked-finds : x ≡ letter.finds → a ≡ answer (finding l T) → Put old 0 (replyLine x (numberOf a) (valueOf a) []) r new →
+      Answers (asked x o T l) old r new T
   unfolding asked
   asked-finds e f h = rw (eq-eqb x letter.finds e) (called-put x T (finding l T) a T (finding-keeps l T a f) h)
 
   module _ (n1 : x ≡ letter.finds → ⊥) where
-    pub asked-deletes : (U : Tables) → x ≡ letter.deletes → Promise (deleting l T) T a U → Put old 0 (replyLine x (numberOf a) (valueOf a) []) r new → Answers (asked x o T l) old r new U
+    pub asked-deletes : (U : Tables) → x ≡ letter.deletes → Promise (deleting l T) T a U →
+        Put old 0 (replyLine x (numberOf a) (valueOf a) []) r new → Answers (asked x o T l) old r new U
     unfolding asked
     asked-deletes U e f h = rw (ne-eqb x letter.finds n1, eq-eqb x letter.deletes e) (called-put x T (deleting l T) a U f h)
 
     module _ (n2 : x ≡ letter.deletes → ⊥) where
-      pub asked-within : x ≡ letter.anyWithin → a ≡ answer (anyKit isWithin l T) → Put old 0 (replyLine x (numberOf a) (valueOf a) []) r new → Answers (asked x o T l) old r new T
+      pub asked-within : x ≡ letter.anyWithin → a ≡ answer (anyKit isWithin l T) →
+          Put old 0 (replyLine x (numberOf a) (valueOf a) []) r new → Answers (asked x o T l) old r new T
       unfolding asked
-      asked-within e f h = rw (ne-eqb x letter.finds n1, ne-eqb x letter.deletes n2, eq-eqb x letter.anyWithin e) (called-put x T (anyKit isWithin l T) a T (within-keeps l T a f) h)
+      asked-within e f h =
+          rw (ne-eqb x letter.finds n1, ne-eqb x letter.deletes n2, eq-eqb x letter.anyWithin e)
+          (called-put x T (anyKit isWithin l T) a T (within-keeps l T a f) h)
 
       module _ (n3 : x ≡ letter.anyWithin → ⊥) where
-        pub asked-containing : x ≡ letter.anyContaining → a ≡ answer (anyKit isContaining l T) → Put old 0 (replyLine x (numberOf a) (valueOf a) []) r new → Answers (asked x o T l) old r new T
+        pub asked-containing : x ≡ letter.anyContaining → a ≡ answer (anyKit isContaining l T) →
+            Put old 0 (replyLine x (numberOf a) (valueOf a) []) r new → Answers (asked x o T l) old r new T
         unfolding asked
         asked-containing e f h =
             rw (ne-eqb x letter.finds n1, ne-eqb x letter.deletes n2, ne-eqb x letter.anyWithin n3, eq-eqb x letter.anyContaining e)
@@ -178,17 +197,31 @@ module _ {old new : List ℕ} {r : ℕ} (x : ℕ) (o : List ℕ) (T : Tables) (l
           pub asked-all-within : x ≡ letter.allWithin → Promise (allKits isWithin l T o) o a m → Answers (asked x o T l) old r new T
           unfolding asked
           asked-all-within e q =
-              rw (ne-eqb x letter.finds n1, ne-eqb x letter.deletes n2, ne-eqb x letter.anyWithin n3, ne-eqb x letter.anyContaining n4, eq-eqb x letter.allWithin e)
+              rw (
+                ne-eqb x letter.finds n1,
+                ne-eqb x letter.deletes n2,
+                ne-eqb x letter.anyWithin n3,
+                ne-eqb x letter.anyContaining n4,
+                eq-eqb x letter.allWithin e,
+              )
               (record { put = shown-put x tagsOf (allKits isWithin l T o) o a m q h; left = refl })
 
-          pub asked-all-containing : (x ≡ letter.allWithin → ⊥) → Promise (allKits isContaining l T o) o a m → Answers (asked x o T l) old r new T
+          pub asked-all-containing : (x ≡ letter.allWithin → ⊥) → Promise (allKits isContaining l T o) o a m →
+              Answers (asked x o T l) old r new T
           unfolding asked
           asked-all-containing n5 q =
-              rw (ne-eqb x letter.finds n1, ne-eqb x letter.deletes n2, ne-eqb x letter.anyWithin n3, ne-eqb x letter.anyContaining n4, ne-eqb x letter.allWithin n5)
+              rw (
+                ne-eqb x letter.finds n1,
+                ne-eqb x letter.deletes n2,
+                ne-eqb x letter.anyWithin n3,
+                ne-eqb x letter.anyContaining n4,
+                ne-eqb x letter.allWithin n5,
+              )
               (record { put = shown-put x tagsOf (allKits isContaining l T o) o a m q h; left = refl })
 
 -- a line that asks something of a list, and one that inserts
-module _ {old new : List ℕ} {r : ℕ} (l : List ℕ) (T : Tables) (res : Reply) (out : List ℕ) (fs : List (List ℕ)) (s : said res out ≡ lookedUp (T .register) fs) where
+module _ {old new : List ℕ} {r : ℕ} (l : List ℕ) (T : Tables) (res : Reply) (out : List ℕ) (fs : List (List ℕ))
+    (s : said res out ≡ lookedUp (T .register) fs) where
   module _ (x : ℕ) (o : List ℕ) (b : typedFields l ≡ fs) where
     pub ask-typed : (n : ℕ) (U : Tables) → n ≡ valueOf res → isRefused res ≡ false → Answers (asked x o T (take n out)) old r new U →
         Answers (askLine x l o T) old r new U
@@ -196,17 +229,21 @@ module _ {old new : List ℕ} {r : ℕ} (l : List ℕ) (T : Tables) (res : Reply
     ask-typed n U f e h =
         with-typed x T (asked x o T) res out (lookedUp (T .register) (typedFields l)) (s ∙ ap (lookedUp (T .register)) (sym b)) n U f e h
 
-    pub ask-stopped : isRefused res ≡ true → Put old 0 (replyLine x (numberOf res) (valueOf res) []) r new → Answers (askLine x l o T) old r new T
+    pub ask-stopped : isRefused res ≡ true → Put old 0 (replyLine x (numberOf res) (valueOf res) []) r new →
+        Answers (askLine x l o T) old r new T
     unfolding askLine
-    ask-stopped e h = with-stopped x T (asked x o T) res out (lookedUp (T .register) (typedFields l)) (s ∙ ap (lookedUp (T .register)) (sym b)) e h
+    ask-stopped e h =
+        with-stopped x T (asked x o T) res out (lookedUp (T .register) (typedFields l)) (s ∙ ap (lookedUp (T .register)) (sym b)) e h
 
   module _ (tag : List ℕ) (b : typedFields l ≡ tag ∷ fs) where
     pub insert-typed : (n t : ℕ) (a : Reply) (U : Tables) → n ≡ valueOf res → isRefused res ≡ false → t ≡ amountOf tag →
-        Promise (inserting (take n out) t T) T a U → Put old 0 (replyLine letter.inserts (numberOf a) (valueOf a) []) r new → Answers (insertLine l T) old r new U
+        Promise (inserting (take n out) t T) T a U → Put old 0 (replyLine letter.inserts (numberOf a) (valueOf a) []) r new → Answers
+        (insertLine l T) old r new U
     unfolding insertLine inserted
     insert-typed n t a U g e f q h =
         let y : t ≡ amountOf (getD (typedFields l) 0 []) = f ∙ ap (λ gs. amountOf (getD gs 0 [])) (sym b) in
-        with-typed letter.inserts T (inserted T (amountOf (getD (typedFields l) 0 []))) res out (lookedUp (T .register) (drop 1 (typedFields l)))
+        with-typed letter.inserts T (inserted T (amountOf (getD (typedFields l) 0 []))) res out
+        (lookedUp (T .register) (drop 1 (typedFields l)))
         (s ∙ ap (λ gs. lookedUp (T .register) (drop 1 gs)) (sym b)) n U g e
         (rw (← y) (called-put letter.inserts T (inserting (take n out) t T) a U q h))
 
@@ -214,7 +251,8 @@ module _ {old new : List ℕ} {r : ℕ} (l : List ℕ) (T : Tables) (res : Reply
         Answers (insertLine l T) old r new T
     unfolding insertLine
     insert-stopped e h =
-        with-stopped letter.inserts T (inserted T (amountOf (getD (typedFields l) 0 []))) res out (lookedUp (T .register) (drop 1 (typedFields l)))
+        with-stopped letter.inserts T (inserted T (amountOf (getD (typedFields l) 0 []))) res out
+        (lookedUp (T .register) (drop 1 (typedFields l)))
         (s ∙ ap (λ gs. lookedUp (T .register) (drop 1 gs)) (sym b)) e h
 
 pub words-inside : (res : Reply) (n m : ℕ) → n ≡ valueOf res → isRefused res ≡ false → leaves res 0 (valueOf res) ≤ m → n ≤ m
@@ -229,9 +267,11 @@ other-refused a h = ⊎-elim (λ d. absurd (h (ap numberOf d))) (λ r. r .1) (do
 
 module _ (a : Answer) (o : List ℕ) where
   -- refused: nothing behind the value
-  pub printed-refused : {old new : List ℕ} {r : ℕ} (x : ℕ) (print : List ℕ → List ℕ) (n : ℕ) → n ≡ numberOf (reply a) → (n ≡ 0 → ⊥) → Put old 0 (replyLine x (numberOf (reply a)) (valueOf (reply a)) []) r new → Put old 0 (printed x print (reply a) o) r new
+  pub printed-refused : {old new : List ℕ} {r : ℕ} (x : ℕ) (print : List ℕ → List ℕ) (n : ℕ) → n ≡ numberOf (reply a) → (n ≡ 0 → ⊥) →
+      Put old 0 (replyLine x (numberOf (reply a)) (valueOf (reply a)) []) r new → Put old 0 (printed x print (reply a) o) r new
   printed-refused x print n e h p =
-      let q = leaves-refused (reply a) (numberOf (reply a)) (valueOf (reply a)) [] (print (take (valueOf (reply a)) o)) (other-refused a (λ z. h (e ∙ z))) in
+      let q = leaves-refused (reply a) (numberOf (reply a)) (valueOf (reply a)) [] (print (take (valueOf (reply a)) o))
+      (other-refused a (λ z. h (e ∙ z))) in
       put-same p (ap (replyLine x (numberOf (reply a)) (valueOf (reply a))) (sym q))
 
   -- done: what was set down, printed
@@ -245,7 +285,8 @@ module _ (a : Answer) (o : List ℕ) where
     pub done-length : length (take v o) ≡ v
     done-length = length-take-le v o done-inside
 
-    pub printed-done : {old new : List ℕ} {r : ℕ} (x : ℕ) (print : List ℕ → List ℕ) → Put old 0 (replyLine x 0 (length (take v o)) (print (take v o))) r new → Put old 0 (printed x print (reply a) o) r new
+    pub printed-done : {old new : List ℕ} {r : ℕ} (x : ℕ) (print : List ℕ → List ℕ) →
+        Put old 0 (replyLine x 0 (length (take v o)) (print (take v o))) r new → Put old 0 (printed x print (reply a) o) r new
     printed-done x print p =
         let q = leaves-done (reply a) (valueOf (reply a)) [] (print (take (valueOf (reply a)) o)) done-is in
         let w = done-length in
@@ -271,8 +312,12 @@ module _ {old new : List ℕ} {r : ℕ} (l o s : List ℕ) (T U : Tables) where
       module _ (n2 : getD l 0 0 ≡ letter.inserts → ⊥) where
         pub write-answers : getD l 0 0 ≡ letter.writes → Put old 0 (writeLine T s .says) r new → Answers (atDesk l o s T) old r new T
         unfolding atDesk wellFormed writeLine
-        write-answers e h = rw (g, ne-eqb (getD l 0 0) letter.registers n1, ne-eqb (getD l 0 0) letter.inserts n2, eq-eqb (getD l 0 0) letter.writes e) (record { put = h; left = refl })
+        write-answers e h =
+            rw (g, ne-eqb (getD l 0 0) letter.registers n1, ne-eqb (getD l 0 0) letter.inserts n2, eq-eqb (getD l 0 0) letter.writes e)
+            (record { put = h; left = refl })
 
-        pub ask-answers : (getD l 0 0 ≡ letter.writes → ⊥) → Answers (askLine (getD l 0 0) l o T) old r new U → Answers (atDesk l o s T) old r new U
+        pub ask-answers : (getD l 0 0 ≡ letter.writes → ⊥) → Answers (askLine (getD l 0 0) l o T) old r new U →
+            Answers (atDesk l o s T) old r new U
         unfolding atDesk wellFormed
-        ask-answers n3 h = rw (g, ne-eqb (getD l 0 0) letter.registers n1, ne-eqb (getD l 0 0) letter.inserts n2, ne-eqb (getD l 0 0) letter.writes n3) h
+        ask-answers n3 h =
+            rw (g, ne-eqb (getD l 0 0) letter.registers n1, ne-eqb (getD l 0 0) letter.inserts n2, ne-eqb (getD l 0 0) letter.writes n3) h

@@ -15,7 +15,8 @@ use Rattle.desk_text.specs.Amounts.{goodAmount}
 use Rattle.desk_text.specs.Letters.{registers, inserts, writes, takesList}
 use Rattle.desk_text.specs.Lines.{space, longestLine, fieldsOf, fieldsFrom, filled, goodPairs, goodKit, goodBehind, goodFields, goodLine}
 use Rattle.desk_text.proofs.Parted.{parted-from, from-step, end-there}
-use Rattle.desk_text.proofs.Lines.{fieldAt, all-from, filled-yes, count-step, count-end, kit-step, kit-end, letter-other, letter-one, behind-registers, behind-inserts, behind-other, behind-list}
+use Rattle.desk_text.proofs.Lines.{fieldAt, all-from, filled-yes, count-step, count-end, kit-step, kit-end, letter-other, letter-one}
+use Rattle.desk_text.proofs.Lines.{behind-registers, behind-inserts, behind-other, behind-list}
 use Rattle.desk_lists.specs.Inner.{Pairs}
 use Rattle.desk_lines.specs.Desk.{typedFields}
 
@@ -24,7 +25,8 @@ unfolding allb filled
 filled-first f fs = refl
 
 module _ (l : List ℕ) (g : goodLine l ≡ true) where
-  sentence : (k : ℕ) → getD (leb 1 (length l) ∷ leb (length l) longestLine ∷ allb filled (fieldsOf l) ∷ goodFields (fieldsOf l) ∷ []) k true ≡ true
+  sentence : (k : ℕ) →
+      getD (leb 1 (length l) ∷ leb (length l) longestLine ∷ allb filled (fieldsOf l) ∷ goodFields (fieldsOf l) ∷ []) k true ≡ true
   unfolding goodLine
   sentence k = every-at (leb 1 (length l) ∷ leb (length l) longestLine ∷ allb filled (fieldsOf l) ∷ goodFields (fieldsOf l) ∷ []) k g
 
@@ -60,7 +62,8 @@ module _ (l : List ℕ) (g : goodLine l ≡ true) where
   -- "P number": the one field behind the letter
   module _ (x : getD l 0 0 ≡ registers) where
     one-field : length (fieldsFrom l 2) ≡ 1
-    one-field = eqb-true (length (fieldsFrom l 2)) 1 (behind-registers (getD l 0 0) (fieldsFrom l 2) (length (fieldsFrom l 2)) x refl ∙ behind-good)
+    one-field =
+        eqb-true (length (fieldsFrom l 2)) 1 (behind-registers (getD l 0 0) (fieldsFrom l 2) (length (fieldsFrom l 2)) x refl ∙ behind-good)
 
     pub number-there : 2 ≤ length l
     number-there = go (below-or (length l) 2)
@@ -115,11 +118,20 @@ module _ (l : List ℕ) (g : goodLine l ≡ true) where
           }
         where
           rest-filled : (leb 1 (length (fieldAt l 2 r)) && allb filled (fieldsFrom l (r + 1))) ≡ true
-          rest-filled = sym (filled-first (fieldAt l 2 r) (fieldsFrom l (r + 1))) ∙ ap (allb filled) (sym (from-step space l 2 r tag-there e)) ∙ behind-filled
+          rest-filled =
+              sym (filled-first (fieldAt l 2 r) (fieldsFrom l (r + 1))) ∙ ap (allb filled) (sym (from-step space l 2 r tag-there e))
+              ∙ behind-filled
 
   -- the letters that take a list alone
   pub list-pairs : (getD l 0 0 ≡ registers → ⊥) → (getD l 0 0 ≡ inserts → ⊥) → (getD l 0 0 ≡ writes → ⊥) → Pairs l 2
-  list-pairs p k w = record { short = line-short; inside = omega (arith, line-some); some = behind-filled; good = go (anyb (eqb (getD l 0 0)) takesList) refl }
+  list-pairs p k w =
+      record {
+        short = line-short;
+        inside = omega (arith, line-some);
+        some = behind-filled;
+        good = go (anyb (eqb (getD l 0 0)) takesList)
+            refl;
+      }
     where
       go : (t : Bool) → anyb (eqb (getD l 0 0)) takesList ≡ t → goodPairs (fieldsFrom l 2) ≡ true
       go true q = behind-list (getD l 0 0) (fieldsFrom l 2) p k w (goodPairs (fieldsFrom l 2)) q refl ∙ behind-good

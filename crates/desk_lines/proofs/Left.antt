@@ -16,7 +16,8 @@ use Rattle.desk_lists.specs.Typed.{Typed, typed, stopped, lookedUp}
 use Rattle.desk_lines.specs.Desk.{Answered, typedFields, atDesk, wellFormed, writeLine, askLine, asked, withList, leftBy, Answers}
 
 -- the reply lies inside the output
-pub reply-inside : (a : Answered) (old : List ℕ) (r : ℕ) (new : List ℕ) (T : Tables) → Answers a old r new T → length new ≡ length old → r ≤ length new
+pub reply-inside : (a : Answered) (old : List ℕ) (r : ℕ) (new : List ℕ) (T : Tables) → Answers a old r new T → length new ≡ length old →
+    r ≤ length new
 reply-inside a old r new T p e =
     let bs = a .says in
     let f : length new ≡ length (bs ++ drop (length bs) old) = ap length (p .put .lies ∙ laid-front old bs) in
@@ -58,4 +59,5 @@ left-by l o s T = outputs-after o s [] [] T l
 -- an overlong line leaves the tables
 pub overlong-leaves : (l : List ℕ) (T : Tables) → longestLine < length l → leftBy l T ≡ T
 unfolding leftBy atDesk
-overlong-leaves l T h = ap (λ (b : Bool). cond b (wellFormed l [] [] T) (record { says = otherLine; after = T }) .after) (line-long l (omega arith) h)
+overlong-leaves l T h =
+    ap (λ (b : Bool). cond b (wellFormed l [] [] T) (record { says = otherLine; after = T }) .after) (line-long l (omega arith) h)

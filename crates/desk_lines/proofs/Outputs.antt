@@ -36,24 +36,40 @@ module _ (x : ℕ) (o : List ℕ) (T : Tables) (l : List ℕ) where
       module _ (n3 : x ≡ letter.anyWithin → ⊥) where
         pub containing-leaves : x ≡ letter.anyContaining → o ≡ askedPlaces x o T l
         unfolding askedPlaces
-        containing-leaves e = rw (ne-eqb x letter.finds n1, ne-eqb x letter.deletes n2, ne-eqb x letter.anyWithin n3, eq-eqb x letter.anyContaining e)
+        containing-leaves e =
+            rw (ne-eqb x letter.finds n1, ne-eqb x letter.deletes n2, ne-eqb x letter.anyWithin n3, eq-eqb x letter.anyContaining e)
 
         module _ (n4 : x ≡ letter.anyContaining → ⊥) (m : List ℕ) where
           pub all-within-lists : x ≡ letter.allWithin → m ≡ memory (allKits isWithin l T o) o → m ≡ askedPlaces x o T l
           unfolding askedPlaces
-          all-within-lists e f = rw (ne-eqb x letter.finds n1, ne-eqb x letter.deletes n2, ne-eqb x letter.anyWithin n3, ne-eqb x letter.anyContaining n4, eq-eqb x letter.allWithin e) f
+          all-within-lists e f =
+              rw (
+                ne-eqb x letter.finds n1,
+                ne-eqb x letter.deletes n2,
+                ne-eqb x letter.anyWithin n3,
+                ne-eqb x letter.anyContaining n4,
+                eq-eqb x letter.allWithin e,
+              ) f
 
           pub all-containing-lists : (x ≡ letter.allWithin → ⊥) → m ≡ memory (allKits isContaining l T o) o → m ≡ askedPlaces x o T l
           unfolding askedPlaces
           all-containing-lists n5 f =
-              rw (ne-eqb x letter.finds n1, ne-eqb x letter.deletes n2, ne-eqb x letter.anyWithin n3, ne-eqb x letter.anyContaining n4, ne-eqb x letter.allWithin n5) f
+              rw (
+                ne-eqb x letter.finds n1,
+                ne-eqb x letter.deletes n2,
+                ne-eqb x letter.anyWithin n3,
+                ne-eqb x letter.anyContaining n4,
+                ne-eqb x letter.allWithin n5,
+              ) f
 
 -- a list that was read, or a lookup that was refused
-module _ (x : ℕ) (l o : List ℕ) (T : Tables) (res : Reply) (out : List ℕ) (fs : List (List ℕ)) (s : said res out ≡ lookedUp (T .register) fs) (b : typedFields l ≡ fs) where
+module _ (x : ℕ) (l o : List ℕ) (T : Tables) (res : Reply) (out : List ℕ) (fs : List (List ℕ))
+    (s : said res out ≡ lookedUp (T .register) fs) (b : typedFields l ≡ fs) where
   typed-is : said res out ≡ lookedUp (T .register) (typedFields l)
   typed-is = s ∙ ap (lookedUp (T .register)) (sym b)
 
-  pub ask-lists : (n : ℕ) (m : List ℕ) → n ≡ valueOf res → isRefused res ≡ false → m ≡ askedPlaces x o T (take n out) → m ≡ askPlaces x l o T
+  pub ask-lists : (n : ℕ) (m : List ℕ) → n ≡ valueOf res → isRefused res ≡ false → m ≡ askedPlaces x o T (take n out) →
+      m ≡ askPlaces x l o T
   unfolding typedPlaces
   ask-lists n m g e f =
       let q : lookedUp (T .register) (typedFields l) ≡ typed (take n out) =
@@ -107,5 +123,10 @@ module _ (l o s : List ℕ) (T : Tables) where
 pub answer-line-pinned : (l o s old : List ℕ) (T : Tables) (r r′ : ℕ) (new new′ : List ℕ) (U U′ : Tables) (p p′ t t′ : List ℕ)
     → Answers (atDesk l o s T) old r new U → Answers (atDesk l o s T) old r′ new′ U′ → Outputs l o s T p t → Outputs l o s T p′ t′
     → (r ≡ r′) × (new ≡ new′) × (U ≡ U′) × (p ≡ p′) × (t ≡ t′)
-answer-line-pinned l o s old T r r′ new new′ U U′ p p′ t t′ a b c d =
-    (a .put .behind ∙ sym (b .put .behind), a .put .lies ∙ sym (b .put .lies), a .left ∙ sym (b .left), c .places ∙ sym (d .places), c .sheet ∙ sym (d .sheet))
+answer-line-pinned l o s old T r r′ new new′ U U′ p p′ t t′ a b c d = (
+  a .put .behind ∙ sym (b .put .behind),
+  a .put .lies ∙ sym (b .put .lies),
+  a .left ∙ sym (b .left),
+  c .places ∙ sym (d .places),
+  c .sheet ∙ sym (d .sheet),
+)

@@ -27,7 +27,8 @@ called x p T = record { says = replyLine x (numberOf (answer p)) (valueOf (answe
 
 -- "then tags for b and s, or the sheet in capital hex for W, when done": the reply of a call that sets something down in the output o
 unfoldable pub shown : ℕ → (List ℕ → List ℕ) → Plan (List ℕ) → List ℕ → List ℕ
-shown x print p o = replyLine x (numberOf (answer p)) (valueOf (answer p)) (leaves (answer p) [] (print (take (valueOf (answer p)) (memory p o))))
+shown x print p o =
+    replyLine x (numberOf (answer p)) (valueOf (answer p)) (leaves (answer p) [] (print (take (valueOf (answer p)) (memory p o))))
 
 unfoldable pub sheetText : List ℕ → List ℕ
 sheetText s = space ∷ hexOf s
@@ -54,7 +55,8 @@ unfoldable pub inserted : Tables → ℕ → List ℕ → Answered
 inserted T t l = called letter.inserts (inserting l t T) T
 
 unfoldable pub insertLine : List ℕ → Tables → Answered
-insertLine l T = withList letter.inserts T (inserted T (amountOf (getD (typedFields l) 0 []))) (lookedUp (T .register) (drop 1 (typedFields l)))
+insertLine l T =
+    withList letter.inserts T (inserted T (amountOf (getD (typedFields l) 0 []))) (lookedUp (T .register) (drop 1 (typedFields l)))
 
 -- "F finds; D deletes; B any within; S any containing; b and s list all", in the lent places o
 unfoldable pub asked : ℕ → List ℕ → Tables → List ℕ → Answered

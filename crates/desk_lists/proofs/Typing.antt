@@ -70,28 +70,38 @@ module _ (l : List ℕ) (at r : ℕ) (p : Pairs l at) (h : at ≤ length l) (e :
       where
         go : (r + 1 < s) ⊎ (s ≤ r + 1) → r + 1 < s
         go (inl g) = g
-        go (inr g) = absurd (false≢true (sym (filled-no l (r + 1) s (omega (arith, quantity-follows)) f (omega (arith, f .low))) ∙ fields-behind))
+        go (inr g) =
+            absurd (false≢true (sym (filled-no l (r + 1) s (omega (arith, quantity-follows)) f (omega (arith, f .low))) ∙ fields-behind))
 
     pub amount-follows : goodAmount (fieldAt l (r + 1) s) ≡ true
-    amount-follows = and-left (goodAmount (fieldAt l (r + 1) s)) (goodPairs (fieldsFrom l (s + 1))) (sym (pairs-step l at r h e s quantity-follows f) ∙ p .good)
+    amount-follows =
+        and-left (goodAmount (fieldAt l (r + 1) s)) (goodPairs (fieldsFrom l (s + 1)))
+        (sym (pairs-step l at r h e s quantity-follows f) ∙ p .good)
 
     pub pairs-next : Pairs l (s + 1)
     pairs-next =
         record {
           short = p .short;
           inside = omega (arith, f .high);
-          some = sym (filled-yes l (r + 1) s (omega (arith, quantity-follows)) f (λ q. absurd (omega (arith, quantity-some)))) ∙ fields-behind;
-          good = and-right (goodAmount (fieldAt l (r + 1) s)) (goodPairs (fieldsFrom l (s + 1))) (sym (pairs-step l at r h e s quantity-follows f) ∙ p .good);
+          some =
+              sym (filled-yes l (r + 1) s (omega (arith, quantity-follows)) f (λ q. absurd (omega (arith, quantity-some)))) ∙ fields-behind;
+          good =
+              and-right (goodAmount (fieldAt l (r + 1) s)) (goodPairs (fieldsFrom l (s + 1)))
+              (sym (pairs-step l at r h e s quantity-follows f) ∙ p .good);
         }
 
-    pub looked-step : (R : List ℕ) → lookedUp R (fieldsFrom l at) ≡ inFrontOf (answer (lookingUp (fieldAt l at r) R)) (amountOf (fieldAt l (r + 1) s)) (lookedUp R (fieldsFrom l (s + 1)))
+    pub looked-step : (R : List ℕ) →
+        lookedUp R (fieldsFrom l at) ≡ inFrontOf (answer (lookingUp (fieldAt l at r) R)) (amountOf (fieldAt l (r + 1) s))
+        (lookedUp R (fieldsFrom l (s + 1)))
     unfolding lookedUp
     looked-step R = rw (from-step space l at r h e, from-step space l (r + 1) s (omega (arith, quantity-follows)) f)
 
-    pub looked-place : (R : List ℕ) (x : ℕ) → answer (lookingUp (fieldAt l at r) R) ≡ done x → lookedUp R (fieldsFrom l at) ≡ inFrontOf (done x) (amountOf (fieldAt l (r + 1) s)) (lookedUp R (fieldsFrom l (s + 1)))
+    pub looked-place : (R : List ℕ) (x : ℕ) → answer (lookingUp (fieldAt l at r) R) ≡ done x →
+        lookedUp R (fieldsFrom l at) ≡ inFrontOf (done x) (amountOf (fieldAt l (r + 1) s)) (lookedUp R (fieldsFrom l (s + 1)))
     looked-place R x q = looked-step R ∙ ap (λ a. inFrontOf a (amountOf (fieldAt l (r + 1) s)) (lookedUp R (fieldsFrom l (s + 1)))) q
 
-  pub looked-refused : (R : List ℕ) (n v : ℕ) → answer (lookingUp (fieldAt l at r) R) ≡ refused n v → lookedUp R (fieldsFrom l at) ≡ stopped n v
+  pub looked-refused : (R : List ℕ) (n v : ℕ) → answer (lookingUp (fieldAt l at r) R) ≡ refused n v →
+      lookedUp R (fieldsFrom l at) ≡ stopped n v
   unfolding inFrontOf
   looked-refused R n v q =
       let s = r + 1 + upTo space (drop (r + 1) l) in
@@ -111,7 +121,8 @@ pub record Reading (R l : List ℕ) (from : ℕ) (old out : List ℕ) (n at : �
   pub whole : joined (take n out) (lookedUp R (fieldsFrom l at)) ≡ lookedUp R (fieldsFrom l from)
 
 pub reading-start : (R l : List ℕ) (from : ℕ) (old : List ℕ) → Pairs l from → mostWords ≤ length old → Reading R l from old old 0 from
-reading-start R l from old p h = record { pairs = p; room = omega arith; size = refl; large = h; whole = joined-none (lookedUp R (fieldsFrom l from)) }
+reading-start R l from old p h =
+    record { pairs = p; room = omega arith; size = refl; large = h; whole = joined-none (lookedUp R (fieldsFrom l from)) }
 
 module _ {R l : List ℕ} {from : ℕ} {old out : List ℕ} {n at : ℕ} (t : Reading R l from old out n at) where
   pub reading-inside : n ≤ length out
@@ -127,9 +138,21 @@ module _ {R l : List ℕ} {from : ℕ} {old out : List ℕ} {n at : ℕ} (t : Re
 
     module _ (s : ℕ) (f : EndOf l (r + 1) space s) where
       pub pair-room : n + 2 ≤ length out
-      pair-room = omega (arith, t .room, t .size, t .large, t .pairs .short, number-some l at r (t .pairs) h e, quantity-some l at r (t .pairs) h e s f, f .high)
+      pair-room =
+          omega (
+            arith,
+            t .room,
+            t .size,
+            t .large,
+            t .pairs .short,
+            number-some l at r (t .pairs) h e,
+            quantity-some l at r (t .pairs) h e
+                s f,
+            f .high,
+          )
 
-      pub reading-on : (x q : ℕ) (new : List ℕ) → answer (lookingUp (fieldAt l at r) R) ≡ done x → q ≡ amountOf (fieldAt l (r + 1) s) → new ≡ laid out n (x ∷ q ∷ []) → Reading R l from old new (n + 2) (s + 1)
+      pub reading-on : (x q : ℕ) (new : List ℕ) → answer (lookingUp (fieldAt l at r) R) ≡ done x → q ≡ amountOf (fieldAt l (r + 1) s) →
+          new ≡ laid out n (x ∷ q ∷ []) → Reading R l from old new (n + 2) (s + 1)
       reading-on x q new a b w =
           let g : take (n + 2) new ≡ take n out ++ (x ∷ q ∷ []) = ap (take (n + 2)) w ∙ take-laid out n (x ∷ q ∷ []) pair-room in
           record {

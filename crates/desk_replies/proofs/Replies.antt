@@ -26,7 +26,8 @@ digits-enough (suc k) zero n h g = absurd (omega arith)
 digits-enough (suc k) (suc m) n h g = go (ltb n 10) refl (digits-enough k m (n / 10))
   where
     go : (t : Bool) → ltb n 10 ≡ t → (n / 10 < k → n / 10 < m → digits k (n / 10) ≡ digits m (n / 10))
-        → cond t ((zeroDigit + n) ∷ []) (digits k (n / 10) ++ ((zeroDigit + n % 10) ∷ [])) ≡ cond t ((zeroDigit + n) ∷ []) (digits m (n / 10) ++ ((zeroDigit + n % 10) ∷ []))
+        → cond t ((zeroDigit + n) ∷ []) (digits k (n / 10) ++ ((zeroDigit + n % 10) ∷ [])) ≡ cond t ((zeroDigit + n) ∷ [])
+        (digits m (n / 10) ++ ((zeroDigit + n % 10) ∷ []))
     go true e f = refl
     go false e f = let l = ltb-false n 10 e in ap (λ d. d ++ ((zeroDigit + n % 10) ∷ [])) (f (omega arith) (omega arith))
 
@@ -36,7 +37,8 @@ decimal-one n h = rw (lt-ltb n 10 h)
 
 pub decimal-more : (n : ℕ) → 10 ≤ n → decimal n ≡ decimal (n / 10) ++ ((zeroDigit + n % 10) ∷ [])
 unfolding decimal digits
-decimal-more n h = rw (le-ltb n 10 h) (ap (λ d. d ++ ((zeroDigit + n % 10) ∷ [])) (digits-enough n (suc (n / 10)) (n / 10) (omega arith) (omega arith)))
+decimal-more n h =
+    rw (le-ltb n 10 h) (ap (λ d. d ++ ((zeroDigit + n % 10) ∷ [])) (digits-enough n (suc (n / 10)) (n / 10) (omega arith) (omega arith)))
 
 pub decimal-length : (n : ℕ) → 10 ≤ n → length (decimal n) ≡ length (decimal (n / 10)) + 1
 decimal-length n h = ap length (decimal-more n h) ∙ length-append (decimal (n / 10)) ((zeroDigit + n % 10) ∷ [])
@@ -48,9 +50,14 @@ put-one l at b h = record { behind = refl; lies = laid-one l at b h }
 pub put-length : {o m : List ℕ} {a r : ℕ} {bs : List ℕ} → a + length bs ≤ length o → Put o a bs r m → length m ≡ length o
 put-length {o} {m} {a} {r} {bs} h p = ap length (p .lies) ∙ length-laid o a bs h
 
-pub put-put : {o m n : List ℕ} {a r s : ℕ} {bs cs : List ℕ} → a + length bs ≤ length o → Put o a bs r m → Put m r cs s n → Put o a (bs ++ cs) s n
+pub put-put : {o m n : List ℕ} {a r s : ℕ} {bs cs : List ℕ} → a + length bs ≤ length o → Put o a bs r m → Put m r cs s n →
+    Put o a (bs ++ cs) s n
 put-put {o} {m} {n} {a} {r} {s} {bs} {cs} h p q =
-    record { behind = simp length-append (omega (arith, p .behind, q .behind)); lies = q .lies ∙ rw (p .lies, p .behind) (laid-laid o a bs cs h) }
+    record {
+      behind = simp length-append (omega (arith, p .behind, q .behind));
+      lies = q .lies ∙ rw (p .lies, p .behind)
+          (laid-laid o a bs cs h);
+    }
 
 pub put-same : {o m : List ℕ} {a r : ℕ} {bs cs : List ℕ} → Put o a bs r m → bs ≡ cs → Put o a cs r m
 put-same p e = record { behind = rw (← e) (p .behind); lies = rw (← e) (p .lies) }
@@ -65,7 +72,8 @@ pub record Rest (o : List ℕ) (from : ℕ) (all out : List ℕ) (at : ℕ) (res
 pub rest-start : (o : List ℕ) (from : ℕ) (all : List ℕ) → from + length all ≤ length o → Rest o from all o from all
 rest-start o from all h = record { room = h; size = refl; ends = refl; lies = refl }
 
-pub rest-put : {o all out rest bs more new : List ℕ} {from at r : ℕ} → Rest o from all out at rest → rest ≡ bs ++ more → Put out at bs r new → Rest o from all new r more
+pub rest-put : {o all out rest bs more new : List ℕ} {from at r : ℕ} → Rest o from all out at rest → rest ≡ bs ++ more →
+    Put out at bs r new → Rest o from all new r more
 rest-put {o} {all} {out} {rest} {bs} {more} {new} {from} {at} {r} t e p =
     let len : length rest ≡ length bs + length more = ap length e ∙ length-append bs more in
     let fit : at + length bs ≤ length out = omega (arith, t .room) in
@@ -77,10 +85,12 @@ rest-put {o} {all} {out} {rest} {bs} {more} {new} {from} {at} {r} t e p =
       lies = rw (p .lies, p .behind) (laid-laid out at bs more fit) ∙ ap (laid out at) (sym e) ∙ t .lies;
     }
 
-pub rest-room : {o all out rest : List ℕ} {from at : ℕ} (bs more : List ℕ) → Rest o from all out at rest → rest ≡ bs ++ more → at + length bs ≤ length out
+pub rest-room : {o all out rest : List ℕ} {from at : ℕ} (bs more : List ℕ) → Rest o from all out at rest → rest ≡ bs ++ more →
+    at + length bs ≤ length out
 rest-room bs more t e = let len = ap length e ∙ length-append bs more in omega (arith, t .room)
 
-pub rest-byte : {o all out rest more new : List ℕ} {from at r b d : ℕ} → Rest o from all out at rest → rest ≡ b ∷ more → d ≡ b → Put out at (d ∷ []) r new → Rest o from all new r more
+pub rest-byte : {o all out rest more new : List ℕ} {from at r b d : ℕ} → Rest o from all out at rest → rest ≡ b ∷ more → d ≡ b →
+    Put out at (d ∷ []) r new → Rest o from all new r more
 rest-byte {b = b} {d = d} t e f p = rest-put {bs = b ∷ []} t e (put-same p (ap (λ x. x ∷ []) f))
 
 pub rest-byte-room : {o all out rest more : List ℕ} {from at b : ℕ} → Rest o from all out at rest → rest ≡ b ∷ more → at < length out
@@ -149,7 +159,9 @@ decimal-5 : (n : ℕ) → n < 100000 → length (decimal n) ≤ 5
 decimal-5 = decimal-grow 10000 4 (decimal-grow 1000 3 (decimal-grow 100 2 (decimal-grow 10 1 decimal-1)))
 
 decimal-10 : (n : ℕ) → n < 10000000000 → length (decimal n) ≤ 10
-decimal-10 = decimal-grow 1000000000 9 (decimal-grow 100000000 8 (decimal-grow 10000000 7 (decimal-grow 1000000 6 (decimal-grow 100000 5 decimal-5))))
+decimal-10 =
+    decimal-grow 1000000000 9
+    (decimal-grow 100000000 8 (decimal-grow 10000000 7 (decimal-grow 1000000 6 (decimal-grow 100000 5 decimal-5))))
 
 decimal-15 : (n : ℕ) → n < 1000000000000000 → length (decimal n) ≤ 15
 decimal-15 =
@@ -159,7 +171,8 @@ decimal-15 =
 pub decimal-20 : (n : ℕ) → n < 100000000000000000000 → length (decimal n) ≤ 20
 decimal-20 =
     decimal-grow 10000000000000000000 19
-    (decimal-grow 1000000000000000000 18 (decimal-grow 100000000000000000 17 (decimal-grow 10000000000000000 16 (decimal-grow 1000000000000000 15 decimal-15))))
+    (decimal-grow 1000000000000000000 18
+    (decimal-grow 100000000000000000 17 (decimal-grow 10000000000000000 16 (decimal-grow 1000000000000000 15 decimal-15))))
 
 pub head-short : (letter n v : ℕ) → n < 100000000000000000000 → v < 100000000000000000000 → length (replyHead letter n v) ≤ headRoom
 unfolding replyHead
@@ -187,23 +200,31 @@ module _ (letter n v : ℕ) (rest : List ℕ) where
   unfolding replyLine
   line-length = simp length-append (omega arith)
 
-  pub behind-head : {o m : List ℕ} {r : ℕ} → length (replyLine letter n v rest) ≤ length o → Put o 0 (replyHead letter n v) r m → Rest o 0 (replyLine letter n v rest) m r (rest ++ (lineFeed ∷ []))
+  pub behind-head : {o m : List ℕ} {r : ℕ} → length (replyLine letter n v rest) ≤ length o → Put o 0 (replyHead letter n v) r m →
+      Rest o 0 (replyLine letter n v rest) m r (rest ++ (lineFeed ∷ []))
   unfolding replyLine
   behind-head {o} h p = rest-put (rest-start o 0 (replyLine letter n v rest) (omega arith)) refl p
 
-pub rest-last : {o all out rest new : List ℕ} {from at r b : ℕ} → Rest o from all out at rest → rest ≡ b ∷ [] → Put out at (b ∷ []) r new → Put o from all r new
+pub rest-last : {o all out rest new : List ℕ} {from at r b : ℕ} → Rest o from all out at rest → rest ≡ b ∷ [] → Put out at (b ∷ []) r new →
+    Put o from all r new
 rest-last t e p = rest-end (rest-byte t e refl p) refl
 
 -- the rooms that are asked for hold the whole reply
 module _ (letter : ℕ) (o : List ℕ) where
-  pub reply-room : (n v : ℕ) → n < 100000000000000000000 → v < 100000000000000000000 → headRoom + 1 ≤ length o → length (replyLine letter n v []) ≤ length o
+  pub reply-room : (n v : ℕ) → n < 100000000000000000000 → v < 100000000000000000000 → headRoom + 1 ≤ length o →
+      length (replyLine letter n v []) ≤ length o
   reply-room n v h g f = omega (arith, line-length letter n v [], head-short letter n v h g)
 
-  pub listing-room : (ts : List ℕ) → ((i : ℕ) → getD ts i 0 < 65536) → length ts < 100000000000000000000 → headRoom + tagRoom * length ts + 1 ≤ length o → length (replyLine letter 0 (length ts) (tagsOf ts)) ≤ length o
-  listing-room ts w h f = omega (arith, line-length letter 0 (length ts) (tagsOf ts), head-short letter 0 (length ts) (omega arith) h, tags-short ts w)
+  pub listing-room : (ts : List ℕ) → ((i : ℕ) → getD ts i 0 < 65536) → length ts < 100000000000000000000 →
+      headRoom + tagRoom * length ts + 1 ≤ length o → length (replyLine letter 0 (length ts) (tagsOf ts)) ≤ length o
+  listing-room ts w h f =
+      omega (arith, line-length letter 0 (length ts) (tagsOf ts), head-short letter 0 (length ts) (omega arith) h, tags-short ts w)
 
-  pub sheet-room : (s : List ℕ) → length s < 100000000000000000000 → headRoom + 1 + 2 * length s + 1 ≤ length o → length (replyLine letter 0 (length s) (space ∷ hexOf s)) ≤ length o
-  sheet-room s h f = omega (arith, line-length letter 0 (length s) (space ∷ hexOf s), head-short letter 0 (length s) (omega arith) h, hex-length s)
+  pub sheet-room : (s : List ℕ) → length s < 100000000000000000000 → headRoom + 1 + 2 * length s + 1 ≤ length o →
+      length (replyLine letter 0 (length s) (space ∷ hexOf s)) ≤ length o
+  sheet-room s h f =
+      omega (arith, line-length letter 0 (length s) (space ∷ hexOf s), head-short letter 0 (length s) (omega arith) h, hex-length s)
 
-pub head-fits : (letter n v : ℕ) (rest o : List ℕ) → length (replyLine letter n v rest) ≤ length o → length (replyHead letter n v) ≤ length o
+pub head-fits : (letter n v : ℕ) (rest o : List ℕ) → length (replyLine letter n v rest) ≤ length o →
+    length (replyHead letter n v) ≤ length o
 head-fits letter n v rest o h = omega (arith, line-length letter n v rest)

@@ -25,11 +25,15 @@ module _ (l : List ℕ) (at r : ℕ) (h : at ≤ length l) (e : EndOf l at space
 
   pub filled-no : r ≡ at → allb filled (fieldsFrom l at) ≡ false
   unfolding allb filled
-  filled-no q = let n : length (fieldAt l at r) < 1 = omega (arith, field-length) in rw (from-step space l at r h e, lt-leb 1 (length (fieldAt l at r)) n)
+  filled-no q =
+      let n : length (fieldAt l at r) < 1 = omega (arith, field-length) in
+      rw (from-step space l at r h e, lt-leb 1 (length (fieldAt l at r)) n)
 
   pub filled-yes : (r ≡ at → ⊥) → allb filled (fieldsFrom l at) ≡ allb filled (fieldsFrom l (r + 1))
   unfolding allb filled
-  filled-yes q = let n : 1 ≤ length (fieldAt l at r) = omega (arith, field-length, e .low) in rw (from-step space l at r h e, le-leb 1 (length (fieldAt l at r)) n)
+  filled-yes q =
+      let n : 1 ≤ length (fieldAt l at r) = omega (arith, field-length, e .low) in
+      rw (from-step space l at r h e, le-leb 1 (length (fieldAt l at r)) n)
 
   pub count-step : length (fieldsFrom l at) ≡ suc (length (fieldsFrom l (r + 1)))
   count-step = rw (from-step space l at r h e)
@@ -42,7 +46,8 @@ module _ (l : List ℕ) (at r : ℕ) (h : at ≤ length l) (e : EndOf l at space
   unfolding goodPairs
   pairs-odd q = rw (from-step space l at r h e, from-none space l (r + 1) (omega arith))
 
-  pub pairs-step : (s : ℕ) → r < length l → EndOf l (r + 1) space s → goodPairs (fieldsFrom l at) ≡ (goodAmount (fieldAt l (r + 1) s) && goodPairs (fieldsFrom l (s + 1)))
+  pub pairs-step : (s : ℕ) → r < length l → EndOf l (r + 1) space s →
+      goodPairs (fieldsFrom l at) ≡ (goodAmount (fieldAt l (r + 1) s) && goodPairs (fieldsFrom l (s + 1)))
   unfolding goodPairs
   pairs-step s g f = rw (from-step space l at r h e, from-step space l (r + 1) s (omega arith) f)
 
@@ -85,7 +90,9 @@ module _ (l : List ℕ) (r : ℕ) (e : EndOf l 0 space r) where
 
   pub letter-other : (r ≡ 1 → ⊥) → goodFields (fieldsOf l) ≡ false
   unfolding goodFields
-  letter-other q = let n : length (fieldAt l 0 r) ≡ 1 → ⊥ = λ x. q (omega (arith, field-length l 0 r (omega arith) e)) in rw (first-field, ne-eqb (length (fieldAt l 0 r)) 1 n)
+  letter-other q =
+      let n : length (fieldAt l 0 r) ≡ 1 → ⊥ = λ x. q (omega (arith, field-length l 0 r (omega arith) e)) in
+      rw (first-field, ne-eqb (length (fieldAt l 0 r)) 1 n)
 
 pub letter-one : (l : List ℕ) → EndOf l 0 space 1 → goodFields (fieldsOf l) ≡ goodBehind (getD l 0 0) (fieldsFrom l 2)
 unfolding goodFields

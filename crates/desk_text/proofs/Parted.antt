@@ -32,7 +32,8 @@ unfolding upTo parted inFront
 parted-last b [] h = refl
 parted-last b (x ∷ xs) h = go (eqb x b) h (parted-last b xs)
   where
-    go : (t : Bool) → length (x ∷ xs) ≤ cond t 0 (suc (upTo b xs)) → (length xs ≤ upTo b xs → parted b xs ≡ xs ∷ []) → cond t ([] ∷ parted b xs) (inFront x (parted b xs)) ≡ (x ∷ xs) ∷ []
+    go : (t : Bool) → length (x ∷ xs) ≤ cond t 0 (suc (upTo b xs)) → (length xs ≤ upTo b xs → parted b xs ≡ xs ∷ []) →
+        cond t ([] ∷ parted b xs) (inFront x (parted b xs)) ≡ (x ∷ xs) ∷ []
     go true g f = absurd (omega arith)
     go false g f = let e = f (omega arith) in rw e
 
@@ -41,8 +42,10 @@ unfolding upTo parted inFront
 parted-more b [] h = absurd (omega arith)
 parted-more b (x ∷ xs) h = go (eqb x b) h (parted-more b xs)
   where
-    go : (t : Bool) → cond t 0 (suc (upTo b xs)) < length (x ∷ xs) → (upTo b xs < length xs → parted b xs ≡ take (upTo b xs) xs ∷ parted b (drop (suc (upTo b xs)) xs))
-        → cond t ([] ∷ parted b xs) (inFront x (parted b xs)) ≡ take (cond t 0 (suc (upTo b xs))) (x ∷ xs) ∷ parted b (drop (suc (cond t 0 (suc (upTo b xs)))) (x ∷ xs))
+    go : (t : Bool) → cond t 0 (suc (upTo b xs)) < length (x ∷ xs) →
+        (upTo b xs < length xs → parted b xs ≡ take (upTo b xs) xs ∷ parted b (drop (suc (upTo b xs)) xs))
+        → cond t ([] ∷ parted b xs) (inFront x (parted b xs)) ≡ take (cond t 0 (suc (upTo b xs))) (x ∷ xs) ∷ parted b
+        (drop (suc (cond t 0 (suc (upTo b xs)))) (x ∷ xs))
     go true g f = refl
     go false g f = let e = f (omega arith) in rw e
 
@@ -62,8 +65,10 @@ module _ (b : ℕ) (l : List ℕ) (at r : ℕ) (h : at ≤ length l) (e : EndOf 
       let s : r - at ≡ upTo b (drop at l) = omega (arith, e .ends) in
       let u : upTo b (drop at l) < length (drop at l) = simp length-drop (omega (arith, e .ends)) in
       let d : drop (suc (upTo b (drop at l))) (drop at l) ≡ drop (r + 1) l =
-      drop-drop (suc (upTo b (drop at l))) at l ∙ ap (λ n. drop n l) (let q : at + suc (upTo b (drop at l)) ≡ r + 1 = omega (arith, e .ends) in q) in
-      rw (le-leb at (length l) h, le-leb (r + 1) (length l) (omega arith), s) (parted-more b (drop at l) u ∙ ap (_∷_ (take (upTo b (drop at l)) (drop at l))) (ap (parted b) d))
+      drop-drop (suc (upTo b (drop at l))) at l ∙ ap (λ n. drop n l)
+      (let q : at + suc (upTo b (drop at l)) ≡ r + 1 = omega (arith, e .ends) in q) in
+      rw (le-leb at (length l) h, le-leb (r + 1) (length l) (omega arith), s)
+      (parted-more b (drop at l) u ∙ ap (_∷_ (take (upTo b (drop at l)) (drop at l))) (ap (parted b) d))
 
   pub from-last : r ≡ length l → partedFrom b l at ≡ take (r - at) (drop at l) ∷ []
   unfolding partedFrom
@@ -76,7 +81,8 @@ module _ (b : ℕ) (l : List ℕ) (at r : ℕ) (h : at ≤ length l) (e : EndOf 
   from-step = go (eqb r (length l)) refl
     where
       go : (t : Bool) → eqb r (length l) ≡ t → partedFrom b l at ≡ take (r - at) (drop at l) ∷ partedFrom b l (r + 1)
-      go true q = let m = eqb-true r (length l) q in from-last m ∙ ap (_∷_ (take (r - at) (drop at l))) (sym (from-none b l (r + 1) (omega arith)))
+      go true q =
+          let m = eqb-true r (length l) q in from-last m ∙ ap (_∷_ (take (r - at) (drop at l))) (sym (from-none b l (r + 1) (omega arith)))
       go false q = from-more (omega (arith, eqb-false r (length l) q, e .high))
 
 -- every stretch ends somewhere
@@ -90,4 +96,5 @@ upTo-inside b (x ∷ xs) = go (eqb x b) (upTo-inside b xs)
     go false h = omega arith
 
 pub end-there : (b : ℕ) (l : List ℕ) (at : ℕ) → at ≤ length l → EndOf l at b (at + upTo b (drop at l))
-end-there b l at h = let n = upTo-inside b (drop at l) in record { ends = refl; low = omega arith; high = omega (arith, simp length-drop at n) }
+end-there b l at h =
+    let n = upTo-inside b (drop at l) in record { ends = refl; low = omega arith; high = omega (arith, simp length-drop at n) }

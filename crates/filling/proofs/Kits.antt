@@ -26,7 +26,8 @@ use Rattle.filling.specs.Inner.{kitsRead, endRead, KitsStand}
 use Rattle.filling.proofs.Listed.{kits-fillable, inserting-enters}
 
 module _ (s : List ℕ) where
-  kits-step : (at k m : ℕ) → k < m → kitsRead s at (m - k) ≡ kitIn placeBytes (recordAt s at) ∷ kitsRead s (at + recordSize placeBytes (drop at s)) (m - (k + 1))
+  kits-step : (at k m : ℕ) → k < m →
+      kitsRead s at (m - k) ≡ kitIn placeBytes (recordAt s at) ∷ kitsRead s (at + recordSize placeBytes (drop at s)) (m - (k + 1))
   unfolding kitsRead
   kits-step at k m h = let e : m - k ≡ suc (m - (k + 1)) = omega arith in rw e
 
@@ -51,7 +52,8 @@ enter-first : (N : List ℕ) (k : Kit) (ks : List Kit) → enterAll N (k ∷ ks)
 unfolding enterAll
 enter-first N k ks = refl
 
--- k of m records are entered, and the next starts at a place: the rest can be entered, and then the table is what all of them make of the table Z
+-- k of m records are entered, and the next starts at a place: the rest can be entered, and then the table is what all of them make of the
+-- table Z
 pub record Filling (s : List ℕ) (from m : ℕ) (Z nodes : List ℕ) (at k : ℕ) : Type 0 where
   pub rest : Fillable mostPlace (kitsRead s from m) nodes (kitsRead s at (m - k))
   pub goes : enterAll nodes (kitsRead s at (m - k)) ≡ enterAll Z (kitsRead s from m)
@@ -59,7 +61,9 @@ pub record Filling (s : List ℕ) (from m : ℕ) (Z nodes : List ℕ) (at k : �
 
 pub filling-start : {s : List ℕ} {from m : ℕ} {N Z : List ℕ} → KitsStand s from m N → Z ≡ zeroed N → Filling s from m Z Z from 0
 filling-start {s} {from} {m} {N} {Z} K e = record {
-  rest = rw (e, sub-zero) (kits-fillable (K .parts) mostPlace (kitsRead s from m) N (K .few) (K .good) (K .unlike) (K .rises) (K .fits) (K .room));
+  rest =
+      rw (e, sub-zero) (kits-fillable (K .parts) mostPlace (kitsRead s from m) N (K .few) (K .good) (K .unlike) (K .rises) (K .fits)
+      (K .room));
   goes = rw sub-zero;
   inside = rw sub-zero (K .inside);
 }
@@ -108,7 +112,8 @@ module _ {s : List ℕ} {from m : ℕ} {Z nodes : List ℕ} {at k : ℕ} (F : Fi
       pub may-insert : Sound mostPlace nodes × ((row .len ≤ mostUnits) × (GoodRow mostPlace (unitsIn row) × (0 < t)))
       may-insert = (F .rest .sound, (rw e units-short, (rw is-row (fit .row), rw is-tag (fit .some-tag))))
 
-      pub filling-on : (a : Reply) (M : List ℕ) → Promise (insertingRow (unitsIn row) t nodes) nodes a M → (r : ℕ) → r ≡ recordEnd s at → Filling s from m Z M r (k + 1)
+      pub filling-on : (a : Reply) (M : List ℕ) → Promise (insertingRow (unitsIn row) t nodes) nodes a M → (r : ℕ) → r ≡ recordEnd s at →
+          Filling s from m Z M r (k + 1)
       filling-on a M p r q =
           let u : r ≡ place = q ∙ sym (end-whole s at record-whole) ∙ (omega (arith, size-at s at)) in
           let v : M ≡ enter nodes 0 (kit .row) (kit .tag) = (rw (is-row, is-tag) at (p .lent)) ∙ inserting-enters next in

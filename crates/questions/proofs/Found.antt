@@ -44,7 +44,8 @@ module _ {parts : ℕ} {N : List ℕ} (S : Shape parts N) (test : List ℕ → B
   found-none = rw (walk-none S)
 
   -- one step: its own, what is below, what is behind
-  pub found-step : (i : ℕ) → Used N i → foundFrom test N i ≡ keep (answers test N) (i ∷ []) ++ (foundFrom test N (child N i) ++ foundFrom test N (next N i))
+  pub found-step : (i : ℕ) → Used N i →
+      foundFrom test N i ≡ keep (answers test N) (i ∷ []) ++ (foundFrom test N (child N i) ++ foundFrom test N (next N i))
   unfolding foundFrom
   found-step i u =
       ap (keep (answers test N)) (walk-some S i u)
@@ -63,42 +64,51 @@ module _ {parts : ℕ} {N : List ℕ} (S : Shape parts N) (test : List ℕ → B
     arith,
     keep-short (answers test N) (walkAll N),
     length-from 0 (size N),
-    no-longer (walkAll N) (from 0 (size N)) (walk-once S) (λ i m. mem-from (size N) 0 i (omega arith) (omega (arith, live-inside (climb S) i (walk-only S i m)))),
+    no-longer (walkAll N) (from 0 (size N)) (walk-once S)
+        (λ i m. mem-from (size N) 0 i (omega arith) (omega (arith, live-inside (climb S) i (walk-only S i m)))),
   )
 
   -- where no row passes that goes on from the node above with a label of at least this one, none does here, below or behind
   pub found-dead : (i : ℕ) → Live N i →
       (0 < i → (x : ℕ) (s : List ℕ) → label N i ≤ x → x ≤ parts → test (rowOf N (parent N i) ++ (x ∷ s)) ≡ false) → foundFrom test N i ≡ []
   found-dead i l =
-      ind S (λ (i : ℕ). (0 < i → (x : ℕ) (s : List ℕ) → label N i ≤ x → x ≤ parts → test (rowOf N (parent N i) ++ (x ∷ s)) ≡ false) → foundFrom test N i ≡ [])
+      ind S (λ (i : ℕ). (0 < i → (x : ℕ) (s : List ℕ) → label N i ≤ x → x ≤ parts → test (rowOf N (parent N i) ++ (x ∷ s)) ≡ false) →
+      foundFrom test N i ≡ [])
       (λ h. found-none)
       (λ i u c n h.
       let p = used-pos (climb S) i u in
       let e : (s : List ℕ) → test (rowOf N i ++ s) ≡ false =
-      λ s. ap test (ap (λ r. r ++ s) (row-step (climb S) i u) ∙ append-assoc (rowOf N (parent N i)) (label N i ∷ []) s) ∙ h p (label N i) s (omega arith) (S .good i u .place) in
-      let below : foundFrom test N (child N i) ≡ [] = c (λ q x s g b. ap (λ r. test (r ++ (x ∷ s))) (ap (rowOf N) (S .head i (u .inside) .back q)) ∙ e (x ∷ s)) in
-      let behind : foundFrom test N (next N i) ≡ [] = n (λ q x s g b. ap (λ r. test (r ++ (x ∷ s))) (ap (rowOf N) (S .good i u .same q)) ∙ h p x s (omega (arith, S .good i u .greater q)) b) in
+      λ s. ap test (ap (λ r. r ++ s) (row-step (climb S) i u) ∙ append-assoc (rowOf N (parent N i)) (label N i ∷ []) s) ∙ h p (label N i) s
+      (omega arith) (S .good i u .place) in
+      let below : foundFrom test N (child N i) ≡ [] = c
+      (λ q x s g b. ap (λ r. test (r ++ (x ∷ s))) (ap (rowOf N) (S .head i (u .inside) .back q)) ∙ e (x ∷ s)) in
+      let behind : foundFrom test N (next N i) ≡ [] = n
+      (λ q x s g b. ap (λ r. test (r ++ (x ∷ s))) (ap (rowOf N) (S .good i u .same q)) ∙ h p x s (omega (arith, S .good i u .greater q))
+      b) in
       rw (found-step i u, own-dead i e, below, behind))
       i l
 
   -- where no row passes that goes on from a node, what is found is behind it
   pub found-past : (i : ℕ) → Used N i → ((s : List ℕ) → test (rowOf N i ++ s) ≡ false) → foundFrom test N i ≡ foundFrom test N (next N i)
   found-past i u e =
-      let below : foundFrom test N (child N i) ≡ [] = found-dead (child N i) (λ q. S .head i (u .inside) .first q) (λ q x s g b. ap (λ r. test (r ++ (x ∷ s))) (ap (rowOf N) (S .head i (u .inside) .back q)) ∙ e (x ∷ s)) in
+      let below : foundFrom test N (child N i) ≡ [] = found-dead (child N i) (λ q. S .head i (u .inside) .first q)
+      (λ q x s g b. ap (λ r. test (r ++ (x ∷ s))) (ap (rowOf N) (S .head i (u .inside) .back q)) ∙ e (x ∷ s)) in
       rw (found-step i u, own-dead i e, below)
 
 -- From nodes to kits: a test of rows, on kits
 onRow : (List ℕ → Bool) → Kit → Bool
 onRow test k = test (k .row)
 
-walk-kits : (test : List ℕ → Bool) (N xs : List ℕ) → keep (onRow test) (map (kitAt N) (keep (tagged N) xs)) ≡ map (kitAt N) (keep (answers test N) xs)
+walk-kits : (test : List ℕ → Bool) (N xs : List ℕ) →
+    keep (onRow test) (map (kitAt N) (keep (tagged N) xs)) ≡ map (kitAt N) (keep (answers test N) xs)
 unfolding keep kitAt answers onRow
 walk-kits test N [] = refl
 walk-kits test N (x ∷ xs) = go (test (rowOf N x)) (tagged N x) refl (walk-kits test N xs)
   where
     go : (b c : Bool) → test (rowOf N x) ≡ b →
         keep (onRow test) (map (kitAt N) (keep (tagged N) xs)) ≡ map (kitAt N) (keep (answers test N) xs) →
-        keep (onRow test) (map (kitAt N) (cond c (x ∷ keep (tagged N) xs) (keep (tagged N) xs))) ≡ map (kitAt N) (cond (b && c) (x ∷ keep (answers test N) xs) (keep (answers test N) xs))
+        keep (onRow test) (map (kitAt N) (cond c (x ∷ keep (tagged N) xs) (keep (tagged N) xs))) ≡ map (kitAt N)
+        (cond (b && c) (x ∷ keep (answers test N) xs) (keep (answers test N) xs))
     go true true e h = rw e (ap (_∷_ (kitAt N x)) h)
     go true false e h = h
     go false true e h = rw e h

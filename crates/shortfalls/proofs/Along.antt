@@ -98,17 +98,21 @@ module _ (Q bin : List ℕ) (C : Counts Q bin) where
           short = ap (λ s. s + 1) (M .short) ∙ sym (short-more bin a x h (omega (arith, left-is, C x)));
         })
 
-  made-along : (a r : List ℕ) (p : Passed) {q : ℕ} → p .last ≡ q → Rises q r → Upto mostPlace r → Made Q bin a p → Made Q bin (a ++ r) (along Q p r)
+  made-along : (a r : List ℕ) (p : Passed) {q : ℕ} → p .last ≡ q → Rises q r → Upto mostPlace r → Made Q bin a p →
+      Made Q bin (a ++ r) (along Q p r)
   unfolding along
   made-along a [] p e s u M = rw append-nil M
   made-along a (x ∷ r) p e (on g s) (place h u) M =
       let k : p .last ≤ x = omega arith in
-      rw (append-assoc a (x ∷ []) r) at (made-along (a ++ (x ∷ [])) r (after Q p x) (pass-last p x (leftOf Q x (p .last) (p .left))) s u (made-next a p x k h M))
+      rw (append-assoc a (x ∷ []) r) at
+      (made-along (a ++ (x ∷ [])) r (after Q p x) (pass-last p x (leftOf Q x (p .last) (p .left))) s u (made-next a p x k h M))
 
   -- of a row of places that rises the whole is the shortfall
   pub short-along : (r : List ℕ) → getD Q 0 0 ≡ 0 → Rises 0 r → Upto mostPlace r → shortIn Q r ≡ shortfall bin r
   unfolding shortIn
-  short-along r z s u = made-along [] r nonePassed refl s u (record { upto = no-more; left = omega (arith, count-none 0); short = sym (short-none bin) }) .short
+  short-along r z s u =
+      made-along [] r nonePassed refl s u
+      (record { upto = no-more; left = omega (arith, count-none 0); short = sym (short-none bin) }) .short
 
   short-units : (r : List ℕ) → getD Q 0 0 ≡ 0 → Rises 0 r → Upto mostPlace r → shortfall bin r ≤ length r
   unfolding shortIn

@@ -44,7 +44,9 @@ none-at-zero l g = quantities-count l g 0 ∙ rises-none (units-rise (good-lines
 module _ (d : ℕ) {N Q : List ℕ} (l : List ℕ) (S : Shape mostPlace N) (g : goodList mostPlace l ≡ true) (e : Q ≡ quantities l) where
   kit-short : (k : Kit) → List·Memᴰ k (held N) → shortOf (units l) k ≡ shortIn Q (k .row)
   unfolding shortOf
-  kit-short k m = rw e (let G = held-good S k m in sym (short-along (quantities l) (units l) (quantities-count l g) (k .row) (none-at-zero l g) (row-rises G) (row-upto G)))
+  kit-short k m =
+      rw e (let G = held-good S k m in sym
+      (short-along (quantities l) (units l) (quantities-count l g) (k .row) (none-at-zero l g) (row-rises G) (row-upto G)))
 
   kits-are : fitting (isAlmost d) l N ≡ map (kitAt N) (foundIn (almost Q d) N)
   unfolding fitting isAlmost almost
@@ -61,11 +63,13 @@ module _ (d : ℕ) {N Q : List ℕ} (l : List ℕ) (S : Shape mostPlace N) (g : 
       ∙ ap (map (rowShort Q)) kits-are ∙ shorts-at Q N (foundIn (almost Q d) N)
 
 -- o and z are as they were lent, m and w as they are now; p′ and q′ are what else was written to count
-module _ {xs ys ts ss : List ℕ} (a : xs ≡ ts) (b : ys ≡ ss) (o z : List ℕ) {room : ℕ} (e : room ≡ min (length o) (length z)) {p p′ q q′ : List ℕ} {need : ℕ} (counted : WroteBoth p p′ q q′ 0 need ts ss) where
+module _ {xs ys ts ss : List ℕ} (a : xs ≡ ts) (b : ys ≡ ss) (o z : List ℕ) {room : ℕ} (e : room ≡ min (length o) (length z))
+    {p p′ q q′ : List ℕ} {need : ℕ} (counted : WroteBoth p p′ q q′ 0 need ts ss) where
   many : need ≡ length xs
   many = omega (arith, counted .one .ends, ap length a)
 
-  pub all-refused : {m w : List ℕ} → m ≡ o → w ≡ z → room < need → Promise (setBoth [] xs ys (both o z)) (both o z) (refused 12 need) (both m w)
+  pub all-refused : {m w : List ℕ} → m ≡ o → w ≡ z → room < need →
+      Promise (setBoth [] xs ys (both o z)) (both o z) (refused 12 need) (both m w)
   all-refused i j h = rw (many, i, j) (set-both-full xs ys (both o z) (omega (arith, many, e)))
 
   pub all-done : {m w o′ z′ : List ℕ} {r : ℕ} → m ≡ o → w ≡ z → need ≤ room → WroteBoth m o′ w z′ 0 r ts ss →

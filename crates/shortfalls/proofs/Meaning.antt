@@ -1,4 +1,5 @@
--- What is promised, in the request's words: which kits answer, when those are the kits within the bin, how they grow with d, and that the two outputs
+-- What is promised, in the request's words: which kits answer, when those are the kits within the bin, how they grow with d, and that the
+-- two outputs
 -- are in step.
 use mathlib.Core.Path.{_≡_, refl, sym}
 use mathlib.Core.Logic.{_↔_}
@@ -40,7 +41,8 @@ nothing-short bin k G = (short-within bin (k .row) (row-upto G), within-short bi
 module _ (bin : List ℕ) (ks : List Kit) where
   -- what is listed for d is what of the listing for e is at most d
   pub almost-grows : (d e : ℕ) → d ≤ e → keep (isAlmost d bin) ks ≡ keep (isAlmost d bin) (keep (isAlmost e bin) ks)
-  almost-grows d e h = sym (keep-twice (isAlmost d bin) (isAlmost e bin) (λ k t. almost-asks e bin k .1 (omega (arith, almost-asks d bin k .0 t))) ks)
+  almost-grows d e h =
+      sym (keep-twice (isAlmost d bin) (isAlmost e bin) (λ k t. almost-asks e bin k .1 (omega (arith, almost-asks d bin k .0 t))) ks)
 
   -- d = 0: every shortfall is 0
   pub zero-shorts : shortsOf bin (keep (isAlmost 0 bin) ks) ≡ replicate (length (keep (isAlmost 0 bin) ks)) 0

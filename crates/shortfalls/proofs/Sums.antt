@@ -106,11 +106,18 @@ module _ (bin : List ℕ) (p q : ℕ) (us : List ℕ) (h : p ≤ mostPlace) (z :
       (λ x n. ap (λ y. y - count x bin) (omega (arith, line-count x, ap (λ t. cond t q 0) (ne-eqb x p n))))
       (omega (arith, line-count p, ap (λ t. cond t q 0) (eq-eqb p p refl))) (mostPlace + 1) 0 (omega arith) (omega arith)
 
-lines-short : (bin : List ℕ) {prev : ℕ} {kit : List ℕ} → GoodLines mostPlace prev kit → shortfall (units bin) (units kit) ≡ linesShort bin kit
+lines-short : (bin : List ℕ) {prev : ℕ} {kit : List ℕ} → GoodLines mostPlace prev kit →
+    shortfall (units bin) (units kit) ≡ linesShort bin kit
 unfolding linesShort units
 lines-short bin none = short-none (units bin)
 lines-short bin (line {p = p} {q = q} {l = l} a b c d g) =
-    omega (arith, line-more (units bin) p q (units l) b (rises-none (units-rise g) p (omega arith)), quantity-count bin p, lines-short bin g)
+    omega (
+      arith,
+      line-more (units bin) p q (units l) b (rises-none (units-rise g) p (omega arith)),
+      quantity-count bin p,
+      lines-short bin
+          g,
+    )
 
 pub short-by-lines : (bin kit : List ℕ) → goodList mostPlace kit ≡ true → shortfall (units bin) (units kit) ≡ linesShort bin kit
 short-by-lines bin kit g = lines-short bin (good-lines mostPlace kit g)

@@ -28,7 +28,8 @@ almost-yes Q d r h = le-leb (along Q nonePassed r .short) d h
 almost-no : (Q : List ℕ) (d : ℕ) (r s : List ℕ) → d < along Q nonePassed r .short → almost Q d (r ++ s) ≡ false
 unfolding almost shortIn
 almost-no Q d r s h =
-    let e : along Q nonePassed (r ++ s) .short ≡ along Q (along Q nonePassed r) s .short = ap (λ (p : Passed). p .short) (along-append Q nonePassed r s) in
+    let e : along Q nonePassed (r ++ s) .short ≡ along Q (along Q nonePassed r) s .short = ap (λ (p : Passed). p .short)
+    (along-append Q nonePassed r s) in
     lt-leb (along Q nonePassed (r ++ s) .short) d (omega (arith, along-least Q (along Q nonePassed r) s))
 
 -- What the walk knows once it has read the label l of the node that it came to; t is its measure
@@ -82,7 +83,9 @@ module _ {N Q : List ℕ} {d at : ℕ} {p : Passed} {l t : ℕ} (v : Seen N Q d 
 
     -- a branch whose shortfall passes d is left with all that is below it
     pub left-out : {m : ℕ} → d < q .short → m ≡ next N at → foundFrom (almost Q d) N at ≡ foundFrom (almost Q d) N m
-    left-out h e = found-past (v .knows .shape) (almost Q d) at here (λ s. almost-no Q d (rowOf N at) s (omega (arith, short-is))) ∙ ap (foundFrom (almost Q d) N) (sym e)
+    left-out h e =
+        found-past (v .knows .shape) (almost Q d) at here (λ s. almost-no Q d (rowOf N at) s (omega (arith, short-is))) ∙ ap
+        (foundFrom (almost Q d) N) (sym e)
 
     module _ (h : q .short ≤ d) where
       pub to-child : {k : ℕ} → k ≡ child N at → (rank N k < t) × AtLink N Q d k q
@@ -119,7 +122,14 @@ module _ {N Q : List ℕ} {d at : ℕ} {p : Passed} {l t : ℕ} (v : Seen N Q d 
             let own = keep (answers (almost Q d) N) (at ∷ []) in
             let below = foundFrom (almost Q d) N k in
             let behind = foundFrom (almost Q d) N m in
-            omega (arith, ap length parts-are, length-append own (below ++ behind), length-append below behind, ap length own-tag, length-map own (tag N))
+            omega (
+              arith,
+              ap length parts-are,
+              length-append own (below ++ behind),
+              length-append below behind,
+              ap length own-tag,
+              length-map own (tag N),
+            )
 
         pub set-down : {o o₁ o₂ o₃ z z₁ z₂ z₃ : List ℕ} {n a b r : ℕ} →
             WroteBoth o o₁ z z₁ n a (someTag u) (ifTag u (q .short)) →
@@ -130,7 +140,8 @@ module _ {N Q : List ℕ} {d at : ℕ} {p : Passed} {l t : ℕ} (v : Seen N Q d 
             let below = foundFrom (almost Q d) N k in
             let behind = foundFrom (almost Q d) N m in
             nodes-same (tag N) (shortAt Q N) parts-are
-            (nodes-on (tag N) (shortAt Q N) (keep (answers (almost Q d) N) (at ∷ [])) (below ++ behind) (both-same own-tag own-short x) (nodes-on (tag N) (shortAt Q N) below behind y w))
+            (nodes-on (tag N) (shortAt Q N) (keep (answers (almost Q d) N) (at ∷ [])) (below ++ behind) (both-same own-tag own-short x)
+            (nodes-on (tag N) (shortAt Q N) below behind y w))
 
 -- The root: the empty row has no shortfall
 module _ {N : List ℕ} (Q : List ℕ) (d : ℕ) (S : Shape mostPlace N) (h : d ≤ mostShort) where
@@ -168,7 +179,15 @@ module _ {N : List ℕ} (Q : List ℕ) (d : ℕ) (S : Shape mostPlace N) (h : d 
     pub root-room : length (someTag u) + length (foundFrom (almost Q d) N k) ≤ mostNodes
     root-room =
         let own = keep (answers (almost Q d) N) (0 ∷ []) in
-        omega (arith, ap length root-parts, length-append own (foundFrom (almost Q d) N k), ap length root-tag, length-map own (tag N), found-few S (almost Q d), S .sized .most)
+        omega (
+          arith,
+          ap length root-parts,
+          length-append own (foundFrom (almost Q d) N k),
+          ap length root-tag,
+          length-map own (tag N),
+          found-few S (almost Q d),
+          S .sized .most,
+        )
 
     pub root-set : {o o₁ o₂ z z₁ z₂ : List ℕ} {a r : ℕ} →
         WroteBoth o o₁ z z₁ 0 a (someTag u) (ifTag u 0) →
@@ -176,4 +195,5 @@ module _ {N : List ℕ} (Q : List ℕ) (d : ℕ) (S : Shape mostPlace N) (h : d 
         WroteNodes Q N o o₂ z z₂ 0 r (foundIn (almost Q d) N)
     root-set x y =
         nodes-same (tag N) (shortAt Q N) root-parts
-        (nodes-on (tag N) (shortAt Q N) (keep (answers (almost Q d) N) (0 ∷ [])) (foundFrom (almost Q d) N k) (both-same root-tag root-word x) y)
+        (nodes-on (tag N) (shortAt Q N) (keep (answers (almost Q d) N) (0 ∷ [])) (foundFrom (almost Q d) N k)
+        (both-same root-tag root-word x) y)

@@ -22,7 +22,8 @@ pub both-on : {o o′ o″ p p′ p″ : List ℕ} {n k r : ℕ} {ts us ss vs : 
     WroteBoth o′ o″ p′ p″ k r us vs → WroteBoth o o″ p p″ n r (ts ++ us) (ss ++ vs)
 both-on a b = record { one = wrote-on (a .one) (b .one); two = wrote-on (a .two) (b .two) }
 
-pub both-same : {o o′ p p′ : List ℕ} {n r : ℕ} {ts us ss vs : List ℕ} → ts ≡ us → ss ≡ vs → WroteBoth o o′ p p′ n r us vs → WroteBoth o o′ p p′ n r ts ss
+pub both-same : {o o′ p p′ : List ℕ} {n r : ℕ} {ts us ss vs : List ℕ} → ts ≡ us → ss ≡ vs → WroteBoth o o′ p p′ n r us vs →
+    WroteBoth o o′ p p′ n r ts ss
 both-same e f w = record { one = wrote-same e (w .one); two = wrote-same f (w .two) }
 
 -- Words of nodes, one list of nodes behind the other

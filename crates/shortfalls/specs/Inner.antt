@@ -77,7 +77,8 @@ WroteFrom Q d N at o o′ p p′ n r = WroteNodes Q N o o′ p p′ n r (foundFr
 abbrev pub WroteIn : List ℕ → ℕ → List ℕ → List ℕ → List ℕ → List ℕ → List ℕ → ℕ → Type 0
 WroteIn Q d N o o′ p p′ r = WroteNodes Q N o o′ p p′ 0 r (foundIn (almost Q d) N)
 
--- What the walk knows at a link: what the row of the node above has made of the labels, and that its shortfall is at most d. So no link is followed
+-- What the walk knows at a link: what the row of the node above has made of the labels, and that its shortfall is at most d. So no link is
+-- followed
 -- from a node whose row has a greater one.
 pub record AtLink (N Q : List ℕ) (d at : ℕ) (p : Passed) : Type 0 where
   pub shape : Shape mostPlace N

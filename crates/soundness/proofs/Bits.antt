@@ -41,7 +41,8 @@ power-other b c n = ⊎-elim
     (λ (h : c < b).
     let d : ℕ = b - (c + 1) in
     let e : b ≡ suc d + c = omega arith in
-    let p : 1 * 2 ^ b ≡ (1 * 2 ^ suc d) * 2 ^ c = ap (λ (x : ℕ). 1 * 2 ^ x) e ∙ ap (λ (x : ℕ). 1 * x) (pow-add 2 (suc d) c) ∙ sym (mul-assoc 1 (2 ^ suc d) (2 ^ c)) in
+    let p : 1 * 2 ^ b ≡ (1 * 2 ^ suc d) * 2 ^ c = ap (λ (x : ℕ). 1 * 2 ^ x) e ∙ ap (λ (x : ℕ). 1 * x) (pow-add 2 (suc d) c) ∙ sym
+    (mul-assoc 1 (2 ^ suc d) (2 ^ c)) in
     ap (λ (x : ℕ). x / 2 ^ c % 2) p ∙ ap (λ (x : ℕ). x % 2) (shl-shr (1 * 2 ^ suc d) c) ∙ shifted-even 1 d)
     (λ (h : b ≤ c).
     let l : 1 * 2 ^ b < 2 ^ (0 + c) = omega (arith, pow-lt {i = b} {j = c} (omega arith), ap (λ (x : ℕ). 2 ^ x) (zero-add c)) in

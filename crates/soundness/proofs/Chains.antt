@@ -1,8 +1,10 @@
--- Each chain walked once. A node is on no chain but its parent's, and there once: so the chains have all used nodes exactly when they have as many.
+-- Each chain walked once. A node is on no chain but its parent's, and there once: so the chains have all used nodes exactly when they have
+-- as many.
 use mathlib.Core.Path.{_≡_, refl, sym, ap, subst, _∙_}
 use mathlib.Core.Logic.{_≢_, ⊎-elim}
 use mathlib.Core.Bool.{Bool, not}
-use mathlib.Core.List.{List, [], _∷_, _++_, List·Memᴰ, List·Memᴰ·head, List·Memᴰ·tail, List·Memᴰ·not-nil, List·Memᴰ·cases-cons, Memᴰ·append-left, Memᴰ·append-right, List·Memᴰ·append-cases}
+use mathlib.Core.List.{List, [], _∷_, _++_, List·Memᴰ, List·Memᴰ·head, List·Memᴰ·tail, List·Memᴰ·not-nil, List·Memᴰ·cases-cons}
+use mathlib.Core.List.{Memᴰ·append-left, Memᴰ·append-right, List·Memᴰ·append-cases}
 use Prim.Native.Nat.{ℕ, zero, suc, _+_, _-_, _≤_, _<_}
 use native.Mathlib.Omega.{arith}
 use lib.Dec.{eqb}
@@ -15,7 +17,8 @@ use Rattle.nodes.specs.Nodes.{parent, child, next, label, size, nodesOf, chain,
 use Rattle.nodes.specs.Inner.{Used, Live, OnChain, here, later, Siblings}
 use Rattle.nodes.proofs.Lists.{countFrom-yes, countFrom-no, countFrom-end}
 use Rattle.nodes.proofs.Fields.{from-root}
-use Rattle.nodes.proofs.Sorted.{Every, Rising, none, also, ahead, every-mem, mem-every, rising-append, rising-weaken, rising-keep, rising-from, keep-short, keep-mem, mem-keep, no-longer, all-met, same-length}
+use Rattle.nodes.proofs.Sorted.{Every, Rising, none, also, ahead, every-mem, mem-every, rising-append, rising-weaken, rising-keep}
+use Rattle.nodes.proofs.Sorted.{rising-from, keep-short, keep-mem, mem-keep, no-longer, all-met, same-length}
 use Rattle.nodes.proofs.Rows.{used-pos, live-inside}
 use Rattle.nodes.proofs.Decided.{node-in, in-node}
 use Rattle.nodes.proofs.Chain.{left, left-less, chain-on, chain-step, chain-short, children-have, children-used, children-apart}
@@ -85,7 +88,8 @@ module _ {N : List ℕ} (K : Kin N) where
   child-used p x h m = every-mem (children-used B p (K .links .down p h)) m
 
   child-of : (p x : ℕ) → p < size N → List·Memᴰ x (children N p) → parent N x ≡ p
-  child-of p x h m = on-kin (child N p) x p (K .links .down p h) (K .back p h) (used-pos (K .links .up) x (child-used p x h m)) (on-children p x m)
+  child-of p x h m =
+      on-kin (child N p) x p (K .links .down p h) (K .back p h) (used-pos (K .links .up) x (child-used p x h m)) (on-children p x m)
 
   record Met (ps : List ℕ) (x : ℕ) : Type 0 where
     used : Used N x
@@ -112,7 +116,8 @@ module _ {N : List ℕ} (K : Kin N) where
   unfolding met
   met-apart [] none none = none
   met-apart (p ∷ ps) (also h i) (ahead d s) = rising-append (children-apart B p (K .links .down p h)) (met-apart ps i s)
-      (mem-every (children N p) (λ x a. mem-every (met N ps) (λ y b e. every-mem d (met-is ps i y b .under) (sym (child-of p x h a) ∙ ap (parent N) e))))
+      (mem-every (children N p)
+      (λ x a. mem-every (met N ps) (λ y b e. every-mem d (met-is ps i y b .under) (sym (child-of p x h a) ∙ ap (parent N) e))))
 
   met-has : (ps : List ℕ) (p x : ℕ) → List·Memᴰ p ps → List·Memᴰ x (children N p) → List·Memᴰ x (met N ps)
   unfolding met
@@ -169,7 +174,8 @@ module _ {N : List ℕ} (K : Kin N) where
   chained-counted D = same-length all wanted all-apart (rising-keep (named N) (nodesOf N) nodes-apart) met-wanted (λ i m.
       let u : Used N i = wanted-is i m in
       let h : parent N i < size N = live-inside (K .links .up) (parent N i) (K .links .up .above i u) in
-      met-has (nodesOf N) (parent N i) i (node-in N (parent N i) h) (children-have B (parent N i) i (K .links .down (parent N i) h) (used-pos (K .links .up) i u) (D .each i u)))
+      met-has (nodesOf N) (parent N i) i (node-in N (parent N i) h)
+      (children-have B (parent N i) i (K .links .down (parent N i) h) (used-pos (K .links .up) i u) (D .each i u)))
 
 ------------------------------------------------------------------------
 -- The count
@@ -200,7 +206,9 @@ module _ {N : List ℕ} {n i used seen : ℕ} (s : Counting N n i used seen) whe
   module _ {h r : ℕ} (g : i < n) (he : h ≡ child N i) (re : r ≡ chainLength N h) where
     met-step : metFrom N n i ≡ r + metFrom N n (i + 1)
     unfolding metFrom met children
-    met-step = ap (λ (l : List ℕ). length (met N l)) (from-step n i g) ∙ length-append (children N i) (met N (from (i + 1) (n - (i + 1)))) ∙ omega (arith, re, ap (chainLength N) he)
+    met-step =
+        ap (λ (l : List ℕ). length (met N l)) (from-step n i g) ∙ length-append (children N i) (met N (from (i + 1) (n - (i + 1)))) ∙ omega
+        (arith, re, ap (chainLength N) he)
 
     pub count-fits : Kin N → seen + r ≤ n
     count-fits K = omega (arith, s .rest-met, met-step, met-all, s .all-nodes, all-fit K)
@@ -226,6 +234,8 @@ module _ {N : List ℕ} {n i used seen : ℕ} (s : Counting N n i used seen) whe
   pub count-says : Kin N → n ≤ i → Says (Chained N) (eqb seen used)
   unfolding met metFrom namedFrom
   count-says K h =
-      let a : seen ≡ length (met N (nodesOf N)) = omega (arith, s .rest-met, met-all, ap (λ (l : List ℕ). length (met N l)) (from-end n i h)) in
-      let b : used ≡ length (keep (named N) (nodesOf N)) = omega (arith, s .rest-used, countFrom-end (named N) n i h, ap (λ (l : List ℕ). length (keep (named N) l)) (from-root N n (s .all-nodes))) in
+      let a : seen ≡ length (met N (nodesOf N)) = omega
+      (arith, s .rest-met, met-all, ap (λ (l : List ℕ). length (met N l)) (from-end n i h)) in
+      let b : used ≡ length (keep (named N) (nodesOf N)) = omega
+      (arith, s .rest-used, countFrom-end (named N) n i h, ap (λ (l : List ℕ). length (keep (named N) l)) (from-root N n (s .all-nodes))) in
       says-eq seen used (λ e. counted-chained K (omega arith)) (λ D. omega (arith, chained-counted K D))

@@ -54,7 +54,8 @@ pub record Going (l m : List ℕ) (at : ℕ) (rest all : List ℕ) : Type 0 wher
 pub going-start : (l all : List ℕ) → length all ≤ length l → Going l l 0 all all
 going-start l all h = record { size = refl; ends = omega arith; room = h; is = refl }
 
-pub going-from : {l m xs : List ℕ} {a : ℕ} (rest : List ℕ) → SetDown l m xs a → length (xs ++ rest) ≤ length l → Going l m a rest (xs ++ rest)
+pub going-from : {l m xs : List ℕ} {a : ℕ} (rest : List ℕ) → SetDown l m xs a → length (xs ++ rest) ≤ length l →
+    Going l m a rest (xs ++ rest)
 going-from {l} {m} {xs} {a} rest d h =
     let n = length-append xs rest in
     let e : a ≡ length xs = d .ends in
@@ -65,7 +66,8 @@ going-from {l} {m} {xs} {a} rest d h =
       is = rw (d .is, e) (rw (zero-add (length xs)) at (laid-laid l 0 xs rest (omega arith)));
     }
 
-pub going-of : {l m xs all : List ℕ} {a : ℕ} (rest : List ℕ) → SetDown l m xs a → all ≡ xs ++ rest → length all ≤ length l → Going l m a rest all
+pub going-of : {l m xs all : List ℕ} {a : ℕ} (rest : List ℕ) → SetDown l m xs a → all ≡ xs ++ rest → length all ≤ length l →
+    Going l m a rest all
 going-of rest d e h = rw e (going-from rest d (rw (← e) h))
 
 -- the first item has room

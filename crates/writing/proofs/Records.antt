@@ -41,7 +41,9 @@ records-both w (k ∷ a) b = rw (append-assoc) (ap (λ (x : List ℕ). recordIte
 module _ (N : List ℕ) where
   pub records-append : (a b : List ℕ) → recordsAt N (a ++ b) ≡ recordsAt N a ++ recordsAt N b
   unfolding recordsAt kitsAt
-  records-append a b = rw (keep-append (tagged N) a b, map-append (kitAt N) (keep (tagged N) a) (keep (tagged N) b)) (records-both placeBytes (map (kitAt N) (keep (tagged N) a)) (map (kitAt N) (keep (tagged N) b)))
+  records-append a b =
+      rw (keep-append (tagged N) a b, map-append (kitAt N) (keep (tagged N) a) (keep (tagged N) b))
+      (records-both placeBytes (map (kitAt N) (keep (tagged N) a)) (map (kitAt N) (keep (tagged N) b)))
 
   pub records-none : recordsAt N [] ≡ []
   unfolding recordsAt kitsAt recordItems keep concat
@@ -56,7 +58,8 @@ module _ (N : List ℕ) where
   own-some i f = rw (ne-eqb (tag N i) 0 f) (append-nil (recordItem placeBytes (kitOf (nodeRow N i) (tag N i))))
 
   -- of the row and the tag that were read
-  pub own-record : (i : ℕ) (r : Row) (t : ℕ) → t ≡ tag N i → (t ≡ 0 → ⊥) → r ≡ rowOf (nodeRow N i) → recordItem placeBytes (kitOf (unitsIn r) t) ≡ ownRecord N i
+  pub own-record : (i : ℕ) (r : Row) (t : ℕ) → t ≡ tag N i → (t ≡ 0 → ⊥) → r ≡ rowOf (nodeRow N i) →
+      recordItem placeBytes (kitOf (unitsIn r) t) ≡ ownRecord N i
   own-record i r t e f g =
       let b : unitsIn r ≡ nodeRow N i = rw g (row-back (nodeRow N i)) in
       rw (b, e) (sym (own-some i (λ z. f (e ∙ z))))
@@ -82,7 +85,8 @@ module _ (N : List ℕ) where
         ∙ ap (λ (x : List ℕ). ownRecord N i ++ x) (records-append (walk N (child N i)) (walk N (next N i)))
 
 -- the numbers in slots
-pub numbers-step : (R : List ℕ) (n k : ℕ) → k < n → numbersFrom R k (n - k) ≡ numberItem (numberAt R k) ++ numbersFrom R (k + 1) (n - (k + 1))
+pub numbers-step : (R : List ℕ) (n k : ℕ) → k < n →
+    numbersFrom R k (n - k) ≡ numberItem (numberAt R k) ++ numbersFrom R (k + 1) (n - (k + 1))
 unfolding numbersFrom numberItems concat
 numbers-step R n k h = rw (from-step n k h)
 
@@ -116,7 +120,8 @@ unfolding linesFrom
 few-from p q [] = omega arith
 few-from p q (x ∷ us) = go (eqb x p) (few-from p (suc q) us) (few-from x 1 us)
   where
-    go : (t : Bool) → length (linesFrom p (suc q) us) ≤ 2 + 2 * length us → length (linesFrom x 1 us) ≤ 2 + 2 * length us → length (cond t (linesFrom p (suc q) us) (p ∷ q ∷ linesFrom x 1 us)) ≤ 2 + 2 * suc (length us)
+    go : (t : Bool) → length (linesFrom p (suc q) us) ≤ 2 + 2 * length us → length (linesFrom x 1 us) ≤ 2 + 2 * length us →
+        length (cond t (linesFrom p (suc q) us) (p ∷ q ∷ linesFrom x 1 us)) ≤ 2 + 2 * suc (length us)
     go true a b = omega arith
     go false a b = omega arith
 
@@ -133,14 +138,18 @@ record-size r t g = omega (arith, items-length (good-lines mostPlace (listOf r) 
 -- A row read up the parent links: `places` has what is behind the row of node j, which is still to come
 pub lay-last : (l rest : List ℕ) (x at : ℕ) → length rest ≡ at → at < length l → laid (set l at x) 0 rest ≡ laid l 0 (rest ++ (x ∷ []))
 lay-last l rest x at e h =
-    let d : drop at (set l at x) ≡ x ∷ drop (suc at) l = drop-cons (set l at x) at 0 (rw length-set h) ∙ rw (getD-set-same l at x 0 h, drop-set-lt (suc at) l at x (omega arith)) refl in
+    let d : drop at (set l at x) ≡ x ∷ drop (suc at) l = drop-cons (set l at x) at 0 (rw length-set h) ∙ rw
+    (getD-set-same l at x 0 h, drop-set-lt (suc at) l at x (omega arith)) refl in
     let n : length (rest ++ (x ∷ [])) ≡ suc at = length-append rest (x ∷ []) ∙ (omega arith) in
     laid-front (set l at x) rest ∙ rw (e, d) (sym (laid-front l (rest ++ (x ∷ [])) ∙ rw (n, append-assoc) refl))
 
 -- the tag and the line count are set down, and the lines are to come
-pub kit-going : {l m : List ℕ} {r : ℕ} (us : List ℕ) (t n : ℕ) → SetDown l m (two t) r → n ≡ length (listOf us) / 2 → length (recordItem placeBytes (kitOf us t)) ≤ length l → Going l (set m 2 n) 3 (lineItems placeBytes (listOf us)) (recordItem placeBytes (kitOf us t))
+pub kit-going : {l m : List ℕ} {r : ℕ} (us : List ℕ) (t n : ℕ) → SetDown l m (two t) r → n ≡ length (listOf us) / 2 →
+    length (recordItem placeBytes (kitOf us t)) ≤ length l →
+    Going l (set m 2 n) 3 (lineItems placeBytes (listOf us)) (recordItem placeBytes (kitOf us t))
 unfolding recordItem inBytes
-kit-going {l} us t n d e h = rw e (going-of (lineItems placeBytes (listOf us)) (down-byte (length (listOf us) / 2) (down-at d (d .ends)) (omega arith)) refl h)
+kit-going {l} us t n d e h =
+    rw e (going-of (lineItems placeBytes (listOf us)) (down-byte (length (listOf us) / 2) (down-at d (d .ends)) (omega arith)) refl h)
 
 module _ (N : List ℕ) (S : Shape mostPlace N) (i : ℕ) (u : Live N i) where
   pub node-short : length (nodeRow N i) ≤ mostUnits
@@ -150,15 +159,18 @@ module _ (N : List ℕ) (S : Shape mostPlace N) (i : ℕ) (u : Live N i) where
   node-deep = sym (row-length (climb S) i u)
 
   -- one node up
-  pub row-up : (places : List ℕ) (at : ℕ) → length places ≡ mostUnits → at ≡ depth N i → 0 < at → laid (set places (at - 1) (label N i)) 0 (nodeRow N (parent N i)) ≡ laid places 0 (nodeRow N i)
+  pub row-up : (places : List ℕ) (at : ℕ) → length places ≡ mostUnits → at ≡ depth N i → 0 < at →
+      laid (set places (at - 1) (label N i)) 0 (nodeRow N (parent N i)) ≡ laid places 0 (nodeRow N i)
   row-up places at w e h =
       let v : Used N i = deep-used (climb S) i u (omega arith) in
       let s : nodeRow N i ≡ nodeRow N (parent N i) ++ (label N i ∷ []) = row-step (climb S) i v in
-      let n : length (nodeRow N (parent N i)) ≡ at - 1 = omega (arith, node-deep, ap length s, length-append (nodeRow N (parent N i)) (label N i ∷ [])) in
+      let n : length (nodeRow N (parent N i)) ≡ at - 1 = omega
+      (arith, node-deep, ap length s, length-append (nodeRow N (parent N i)) (label N i ∷ [])) in
       lay-last places (nodeRow N (parent N i)) (label N i) (at - 1) n (omega (arith, node-deep, node-short)) ∙ rw (← s) refl
 
   -- its own record, of the row that was read
-  pub own-length : (r : Row) (t : ℕ) → t ≡ tag N i → (t ≡ 0 → ⊥) → r ≡ rowOf (nodeRow N i) → (length (ownRecord N i) ≡ 3 + length (listOf (unitsIn r)) / 2 * 2) × (length (listOf (unitsIn r)) / 2 ≤ 64)
+  pub own-length : (r : Row) (t : ℕ) → t ≡ tag N i → (t ≡ 0 → ⊥) → r ≡ rowOf (nodeRow N i) →
+      (length (ownRecord N i) ≡ 3 + length (listOf (unitsIn r)) / 2 * 2) × (length (listOf (unitsIn r)) / 2 ≤ 64)
   own-length r t e f g =
       let b : unitsIn r ≡ nodeRow N i = rw g (row-back (nodeRow N i)) in
       let o = own-some N i (λ z. f (e ∙ z)) in

@@ -32,7 +32,8 @@ unfolding putKit
 put-bytes w k [] = refl
 put-bytes w k (x ∷ ks) = go (before (k .row) (x .row)) (put-bytes w k ks)
   where
-    go : (t : Bool) → length (recordItems w (putKit k ks)) ≡ length (recordItems w (k ∷ ks)) → length (recordItems w (cond t (k ∷ x ∷ ks) (x ∷ putKit k ks))) ≡ length (recordItems w (k ∷ x ∷ ks))
+    go : (t : Bool) → length (recordItems w (putKit k ks)) ≡ length (recordItems w (k ∷ ks)) →
+        length (recordItems w (cond t (k ∷ x ∷ ks) (x ∷ putKit k ks))) ≡ length (recordItems w (k ∷ x ∷ ks))
     go true e = refl
     go false e = omega (arith, bytes-of w x (putKit k ks), bytes-of w k (x ∷ ks), bytes-of w x ks, bytes-of w k ks)
 
@@ -92,7 +93,19 @@ module _ (R N : List ℕ) (ready : Ready R) (n m : ℕ) (parts : n ≡ length (p
       let k = length (held N) in
       let p = length (partsOf R) in
       let e : length P ≡ length (numbersFrom R 0 n) = rw parts (ap length (parts-numbers R ready)) in
-      omega (arith, e, held-bytes N, two-length version, two-length p, two-length k, length-append (two version) (two p ++ (P ++ (two k ++ K))), length-append (two p) (P ++ (two k ++ K)), length-append P (two k ++ K), length-append (two k) K)
+      omega (
+        arith,
+        e,
+        held-bytes N,
+        two-length version,
+        two-length p,
+        two-length k,
+        length-append (two version)
+            (two p ++ (P ++ (two k ++ K))),
+        length-append (two p) (P ++ (two k ++ K)),
+        length-append P (two k ++ K),
+        length-append (two k) K,
+      )
 
 -- what the writer promises
 module _ (c : Contents) (o : List ℕ) (n : ℕ) (need : n ≡ length (encode c)) where

@@ -8,7 +8,8 @@ use Rattle.nodes.specs.Nodes.{child, next, size}
 use Rattle.nodes.specs.Inner.{Used, rank}
 use Rattle.nodes.proofs.Walk.{child-less, next-less, child-live}
 use Rattle.writing.specs.Inner.{SetDown, ownRecord, recordsFrom}
-use Rattle.writing.proofs.Down.{Going, rest-of, back, down-none, down-same, down-size, first-room, going-of, going-room, going-inside, going-on, last-inside, last-room, going-last}
+use Rattle.writing.proofs.Down.{Going, rest-of, back, down-none, down-same, down-size, first-room, going-of, going-room}
+use Rattle.writing.proofs.Down.{going-inside, going-on, last-inside, last-room, going-last}
 use Rattle.writing.proofs.Records.{from-none, from-some}
 use Prim.Native.Nat.{ℕ, _<_}
 use borrow.Fn.Kinds.{In}
