@@ -131,7 +131,8 @@ pub fn all_almost(
     tags: &mut [u16],
     shorts: &mut [u16],
 ) -> Answer
-    ensures { λ r. ⌜ SetsBoth (almostKits d (now (bin .entry)) (tables (now (reg .entry)) (now (nodes .entry)))) (now (tags .entry)) (now (shorts .entry)) (reply r) (now (tags .exit)) (now (shorts .exit)) ⌝ }
+    ensures { λ r. ⌜ SetsBoth (almostKits d (now (bin .entry)) (tables (now (reg .entry)) (now (nodes .entry)))) (now (tags .entry)) (now (shorts .entry))
+        (reply r) (now (tags .exit)) (now (shorts .exit)) ⌝ }
 {
     let lent = check_lent(reg, nodes, bin);
     if refused(lent) {

@@ -41,7 +41,8 @@ fn reply_to(
     out: &mut [u8],
 )
     requires { ⌜ AtHand (tables (now reg) (now nodes)) (now places) (now sheet) (now out) ⌝ }
-    ensures { λ _. ⌜ AtHand (tables (now (reg .exit)) (now (nodes .exit))) (now (places .exit)) (now (sheet .exit)) (now (out .exit)) ⌝ ∗ ⌜ tables (now (reg .exit)) (now (nodes .exit)) ≡ leftBy (now (line .entry)) (tables (now (reg .entry)) (now (nodes .entry))) ⌝ }
+    ensures { λ _. ⌜ AtHand (tables (now (reg .exit)) (now (nodes .exit))) (now (places .exit)) (now (sheet .exit)) (now (out .exit)) ⌝
+        ∗ ⌜ tables (now (reg .exit)) (now (nodes .exit)) ≡ leftBy (now (line .entry)) (tables (now (reg .entry)) (now (nodes .entry))) ⌝ }
 {
     let n = answer_line(line, reg, nodes, places, sheet, out);
     io::write_all(STDOUT_FILENO, &out[..n]);
@@ -60,7 +61,9 @@ fn take_piece(
     out: &mut [u8],
 ) -> usize
     requires { ⌜ Keeps (now kept) from ⌝ ∗ ⌜ AtHand (tables (now reg) (now nodes)) (now places) (now sheet) (now out) ⌝ }
-    ensures { λ r. ⌜ Takes (take from (now (kept .entry))) (now (piece .entry)) (tables (now (reg .entry)) (now (nodes .entry))) r (now (kept .exit)) (tables (now (reg .exit)) (now (nodes .exit))) ⌝ ∗ ⌜ AtHand (tables (now (reg .exit)) (now (nodes .exit))) (now (places .exit)) (now (sheet .exit)) (now (out .exit)) ⌝ }
+    ensures { λ r. ⌜ Takes (take from (now (kept .entry))) (now (piece .entry)) (tables (now (reg .entry)) (now (nodes .entry))) r (now (kept .exit))
+        (tables (now (reg .exit)) (now (nodes .exit))) ⌝
+        ∗ ⌜ AtHand (tables (now (reg .exit)) (now (nodes .exit))) (now (places .exit)) (now (sheet .exit)) (now (out .exit)) ⌝ }
 {
     let mut n = from;
     let mut at = 0;

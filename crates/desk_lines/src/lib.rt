@@ -76,7 +76,9 @@ fn put_written(out: &mut [u8], a: Answer, sheet: &[u8]) -> usize
 // "P number registers".
 fn register_line(line: &[u8], reg: &mut [u8], nodes: &[u16], out: &mut [u8]) -> usize
     requires { ⌜ Begins (now line) registers ⌝ ∗ ⌜ Ready (now reg) ⌝ ∗ ⌜ headRoom + 1 ≤ length (now out) ⌝ }
-    ensures { λ r. ⌜ Answers (registerLine (now (line .entry)) (tables (now (reg .entry)) (now (nodes .entry)))) (now (out .entry)) r (now (out .exit)) (tables (now (reg .exit)) (now (nodes .entry))) ⌝ ∗ ⌜ Ready (now (reg .exit)) ⌝ }
+    ensures { λ r. ⌜ Answers (registerLine (now (line .entry)) (tables (now (reg .entry)) (now (nodes .entry)))) (now (out .entry)) r (now (out .exit))
+        (tables (now (reg .exit)) (now (nodes .entry))) ⌝
+        ∗ ⌜ Ready (now (reg .exit)) ⌝ }
 {
     put_answer(
         out,
@@ -88,7 +90,8 @@ fn register_line(line: &[u8], reg: &mut [u8], nodes: &[u16], out: &mut [u8]) -> 
 // "W writes".
 fn write_line(reg: &[u8], nodes: &[u16], sheet: &mut [u8], out: &mut [u8]) -> usize
     requires { ⌜ headRoom + 1 + 2 * length (now sheet) + 1 ≤ length (now out) ⌝ }
-    ensures { λ r. ⌜ Put (now (out .entry)) 0 (writeLine (tables (now (reg .entry)) (now (nodes .entry))) (now (sheet .entry)) .says) r (now (out .exit)) ⌝ ∗ ⌜ now (sheet .exit) ≡ memory (writing (tables (now (reg .entry)) (now (nodes .entry))) (now (sheet .entry))) (now (sheet .entry)) ⌝ }
+    ensures { λ r. ⌜ Put (now (out .entry)) 0 (writeLine (tables (now (reg .entry)) (now (nodes .entry))) (now (sheet .entry)) .says) r (now (out .exit)) ⌝
+        ∗ ⌜ now (sheet .exit) ≡ memory (writing (tables (now (reg .entry)) (now (nodes .entry))) (now (sheet .entry))) (now (sheet .entry)) ⌝ }
 {
     let a = catalogue::write_sheet(reg, nodes, sheet);
     put_written(out, a, sheet)
@@ -97,7 +100,8 @@ fn write_line(reg: &[u8], nodes: &[u16], sheet: &mut [u8], out: &mut [u8]) -> us
 // "K tag, then number and quantity pairs, inserts".
 fn insert_line(line: &[u8], reg: &[u8], nodes: &mut [u16], out: &mut [u8]) -> usize
     requires { ⌜ Begins (now line) inserts ⌝ ∗ ⌜ Ready (now reg) ⌝ ∗ ⌜ headRoom + 1 ≤ length (now out) ⌝ }
-    ensures { λ r. ⌜ Answers (insertLine (now (line .entry)) (tables (now (reg .entry)) (now (nodes .entry)))) (now (out .entry)) r (now (out .exit)) (tables (now (reg .entry)) (now (nodes .exit))) ⌝ }
+    ensures { λ r. ⌜ Answers (insertLine (now (line .entry)) (tables (now (reg .entry)) (now (nodes .entry)))) (now (out .entry)) r (now (out .exit))
+        (tables (now (reg .entry)) (now (nodes .exit))) ⌝ }
 {
     let mut list = [0u16; LIST_WORDS];
     let end = end_of(line, BEHIND_LETTER, desk_text::SPACE);
@@ -121,7 +125,9 @@ fn ask(
     out: &mut [u8],
 ) -> usize
     requires { ⌜ headRoom + tagRoom * length (now places) + 1 ≤ length (now out) ⌝ }
-    ensures { λ r. ⌜ Answers (asked letter (now (places .entry)) (tables (now (reg .entry)) (now (nodes .entry))) (now (list .entry))) (now (out .entry)) r (now (out .exit)) (tables (now (reg .entry)) (now (nodes .exit))) ⌝ ∗ ⌜ now (places .exit) ≡ askedPlaces letter (now (places .entry)) (tables (now (reg .entry)) (now (nodes .entry))) (now (list .entry)) ⌝ }
+    ensures { λ r. ⌜ Answers (asked letter (now (places .entry)) (tables (now (reg .entry)) (now (nodes .entry))) (now (list .entry))) (now (out .entry)) r
+        (now (out .exit)) (tables (now (reg .entry)) (now (nodes .exit))) ⌝
+        ∗ ⌜ now (places .exit) ≡ askedPlaces letter (now (places .entry)) (tables (now (reg .entry)) (now (nodes .entry))) (now (list .entry)) ⌝ }
 {
     if letter == desk_text::FINDS {
         return put_answer(out, letter, catalogue::find(reg, nodes, list));
@@ -153,7 +159,9 @@ fn ask_line(
     out: &mut [u8],
 ) -> usize
     requires { ⌜ Pairs (now line) 2 ⌝ ∗ ⌜ goodLine (now line) ≡ true ⌝ ∗ ⌜ Ready (now reg) ⌝ ∗ ⌜ headRoom + tagRoom * length (now places) + 1 ≤ length (now out) ⌝ }
-    ensures { λ r. ⌜ Answers (askLine letter (now (line .entry)) (now (places .entry)) (tables (now (reg .entry)) (now (nodes .entry)))) (now (out .entry)) r (now (out .exit)) (tables (now (reg .entry)) (now (nodes .exit))) ⌝ ∗ ⌜ now (places .exit) ≡ askPlaces letter (now (line .entry)) (now (places .entry)) (tables (now (reg .entry)) (now (nodes .entry))) ⌝ }
+    ensures { λ r. ⌜ Answers (askLine letter (now (line .entry)) (now (places .entry)) (tables (now (reg .entry)) (now (nodes .entry)))) (now (out .entry)) r
+        (now (out .exit)) (tables (now (reg .entry)) (now (nodes .exit))) ⌝
+        ∗ ⌜ now (places .exit) ≡ askPlaces letter (now (line .entry)) (now (places .entry)) (tables (now (reg .entry)) (now (nodes .entry))) ⌝ }
 {
     let mut list = [0u16; LIST_WORDS];
     let read = read_list(line, BEHIND_LETTER, reg, &mut list);
@@ -174,7 +182,10 @@ pub fn answer_line(
     out: &mut [u8],
 ) -> usize
     requires { ⌜ Ready (now reg) ⌝ ∗ ⌜ Room (now places) (now sheet) (now out) ⌝ }
-    ensures { λ r. ⌜ Answers (atDesk (now (line .entry)) (now (places .entry)) (now (sheet .entry)) (tables (now (reg .entry)) (now (nodes .entry)))) (now (out .entry)) r (now (out .exit)) (tables (now (reg .exit)) (now (nodes .exit))) ⌝ ∗ ⌜ Ready (now (reg .exit)) ⌝ ∗ ⌜ Outputs (now (line .entry)) (now (places .entry)) (now (sheet .entry)) (tables (now (reg .entry)) (now (nodes .entry))) (now (places .exit)) (now (sheet .exit)) ⌝ }
+    ensures { λ r. ⌜ Answers (atDesk (now (line .entry)) (now (places .entry)) (now (sheet .entry)) (tables (now (reg .entry)) (now (nodes .entry))))
+        (now (out .entry)) r (now (out .exit)) (tables (now (reg .exit)) (now (nodes .exit))) ⌝
+        ∗ ⌜ Ready (now (reg .exit)) ⌝
+        ∗ ⌜ Outputs (now (line .entry)) (now (places .entry)) (now (sheet .entry)) (tables (now (reg .entry)) (now (nodes .entry))) (now (places .exit)) (now (sheet .exit)) ⌝ }
 {
     if !good_line(line) {
         return put_other(out);

@@ -74,7 +74,8 @@ fn fill_nodes(nodes: &mut [u16], s: &[u8], from: usize, m: usize)
 // Empties both tables and fills them with n parts and m kits of a sheet.
 pub fn fill(reg: &mut [u8], nodes: &mut [u16], s: &[u8], n: usize, m: usize)
     requires { ⌜ NumbersStand (now s) n (now reg) ⌝ ∗ ⌜ KitsStand (now s) (endAt (now s) headBytes n + 2) m (now nodes) ⌝ }
-    ensures { λ _. ⌜ (now (reg .exit) ≡ registerOf (slotCount (now (reg .entry))) (numbersAt (now (s .entry)) headBytes n)) × (now (nodes .exit) ≡ enterAll (zeroed (now (nodes .entry))) (kitsRead (now (s .entry)) (endAt (now (s .entry)) headBytes n + 2) m)) ⌝ }
+    ensures { λ _. ⌜ (now (reg .exit) ≡ registerOf (slotCount (now (reg .entry))) (numbersAt (now (s .entry)) headBytes n)) ×
+        (now (nodes .exit) ≡ enterAll (zeroed (now (nodes .entry))) (kitsRead (now (s .entry)) (endAt (now (s .entry)) headBytes n + 2) m)) ⌝ }
 {
     let at = fill_register(reg, s, n);
     fill_nodes(nodes, s, at + 2, m);

@@ -138,7 +138,8 @@ pub fn all_almost(
     shorts: &mut [u16],
 ) -> Answer
     requires { ⌜ Sound mostPlace (now nodes) ⌝ ∗ ⌜ (goodList mostPlace (now bin) ≡ true) × (d ≤ mostShort) ⌝ }
-    ensures { λ r. ⌜ SetsBoth (listAlmost [] d (now (bin .entry)) (now (nodes .entry))) (now (tags .entry)) (now (shorts .entry)) (reply r) (now (tags .exit)) (now (shorts .exit)) ⌝ }
+    ensures { λ r. ⌜ SetsBoth (listAlmost [] d (now (bin .entry)) (now (nodes .entry))) (now (tags .entry)) (now (shorts .entry)) (reply r) (now (tags .exit))
+        (now (shorts .exit)) ⌝ }
 {
     let amounts = quantities_of(bin);
     let room = least(tags.len(), shorts.len());

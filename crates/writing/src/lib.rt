@@ -241,7 +241,8 @@ fn put_records(out: &mut [u8], nodes: &[u16]) -> usize
 
 // All items of a sheet, one behind the other.
 fn put_items(out: &mut [u8], reg: &[u8], nodes: &[u16], sheet: Sheet) -> usize
-    requires { ⌜ Ready (now reg) ⌝ ∗ ⌜ Sound mostPlace (now nodes) ⌝ ∗ ⌜ Counted (now reg) (now nodes) sheet ⌝ ∗ ⌜ length (encode (contentsOf (now reg) (now nodes))) ≤ length (now out) ⌝ }
+    requires { ⌜ Ready (now reg) ⌝ ∗ ⌜ Sound mostPlace (now nodes) ⌝ ∗ ⌜ Counted (now reg) (now nodes) sheet ⌝ ∗
+        ⌜ length (encode (contentsOf (now reg) (now nodes))) ≤ length (now out) ⌝ }
     ensures { λ r. ⌜ SetDown (now (out .entry)) (now (out .exit)) (encode (contentsOf (now (reg .entry)) (now (nodes .entry)))) r ⌝ }
 {
     let numbers = put_head(out, sheet.parts);
