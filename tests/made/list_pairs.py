@@ -2,7 +2,7 @@
 
 A list's check and its units show where it is inserted; its quantities by what kits lack beside it;
 how two rows stand to each other by what one adds to the other, by the sheet of both and by reading
-the two as records; inclusion by the questions. The line at fault shows in kits_run alone.
+the two as records; inclusion by the questions.
 """
 
 from functools import lru_cache
@@ -16,7 +16,6 @@ from second.nodes import NODE_WORDS
 from second.refusals import BAD_ORDER
 from second.register import MOST_SLOTS
 
-from .chance import Chance
 from .reached import BY_CHANCE, PAIR
 from .register_requests import many_numbers
 from .sheet_requests import record, sheet_of
@@ -26,10 +25,6 @@ from .tables import parts_register, table
 ONE_KIT_NODES = 1 + MOST_UNITS
 TWO_KITS_NODES = 1 + 2 * MOST_UNITS
 TAGS = 1000, 2
-
-# How many pairs by chance the stored run of kits_run has, and from which seed.
-STORED_SEED = 741
-STORED_BY_CHANCE = 70
 
 # The lines that are at fault by 4, 5 and 6 beside five parts.
 FAULTY_LINES = [(0, 1), (6, 1), (5, 16)]
@@ -129,12 +124,6 @@ def by_chance(chance):
     elif chance.below(2) == 0:
         second = second[:2 * chance.below(len(second) // 2 + 1)]
     return parts, first, second
-
-
-def stored():
-    """The pairs that the stored run of kits_run has."""
-    chance = Chance(STORED_SEED)
-    return [*limits(), *(by_chance(chance) for _ in range(STORED_BY_CHANCE))]
 
 
 def everything(chance, count):
