@@ -15,7 +15,7 @@ use Rattle.ground.specs.Calls.{Case, given, plan, Reply, done, refused, isRefus
 use Rattle.ground.proofs.Calls.{promise-first, promise-front, promise-behind, promise-part, promise-refused, promise-done, first-refuses}
 use Rattle.ground.proofs.Calls.{first-passes, whole-refuses, whole-passes, set-down-behind, set-both-behind}
 use Rattle.kits.specs.Kits.{mostUnits, mostPlace, units, goodList, listFaults}
-use Rattle.kits.specs.Inner.{GoodRow, rowOf, unitsIn}
+use Rattle.kits.specs.Inner.{GoodRow, fixedRow, unitsIn}
 use Rattle.kits.specs.declared.Row.{Row}
 use Rattle.kits.proofs.Rows.{row-back}
 use Rattle.kits.proofs.Units.{good-row}
@@ -35,7 +35,7 @@ use Rattle.lent.specs.Lent.{Tables, tables, partCount, lengths, lentBoth, lentL
 use Rattle.catalogue.specs.Calls.{contents, emptying, inserting, finding, deleting, anyKit, allKits, almostKits, writing, reading}
 
 -- the row of a list that has room, as it is lent on by value
-module _ (w : Row) (l : List ℕ) (is : w ≡ rowOf (units l)) where
+module _ (w : Row) (l : List ℕ) (is : w ≡ fixedRow (units l)) where
   pub row-units : unitsIn w ≡ units l
   row-units = ap unitsIn is ∙ row-back (units l)
 
@@ -74,9 +74,9 @@ module _ (R N : List ℕ) where
     unfolding reading
     read-refused e = promise-front (lengths (tables R N)) _ _ _ (tables R N) r 0 is e
 
-    pub read-done : (p : Reply) (T′ : Tables) → isRefused r ≡ false → Promise (filling.reading s (tables R N)) (tables R N) p T′ →
+    pub read-done : (p : Reply) (T′ : Tables) → isRefused r ≡ false → Promise (filling.readingInto s (tables R N)) (tables R N) p T′ →
         Promise (reading s (tables R N)) (tables R N) p T′
-    unfolding reading filling.reading
+    unfolding reading filling.readingInto
     read-done p T′ e i = promise-behind (lengths (tables R N)) _ _ _ (tables R N) p T′ 0 (ap isRefused (sym is) ∙ e) i
 
   -- Writing the sheet
@@ -86,8 +86,8 @@ module _ (R N : List ℕ) where
   write-refused o r is e = promise-front (lentBoth (tables R N)) _ _ _ o r 0 is e
 
   pub write-done : (o w : List ℕ) (r q : Reply) → r ≡ decide (lentBoth (tables R N)) 0 → isRefused r ≡ false →
-      Promise (sheet.writing (contents (tables R N)) o) o q w → Promise (writing (tables R N) o) o q w
-  unfolding writing sheet.writing
+      Promise (sheet.writingOf (contents (tables R N)) o) o q w → Promise (writing (tables R N) o) o q w
+  unfolding writing sheet.writingOf
   write-done o w r q is e p = set-down-behind (lentBoth (tables R N)) 0 (encode (contents (tables R N))) o (whole-passes r _ 0 0 is e) p
 
   module _ (l : List ℕ) where

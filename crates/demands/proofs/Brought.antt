@@ -38,7 +38,7 @@ use Rattle.index.specs.Inner.{insertingRow, deletingRow}
 use Rattle.index.proofs.Kept.{Accepted, accepted, deleting-tag, insert-growth, insert-sound, insert-length, held-after-insert, delete-sound, delete-length, held-after-delete}
 use Rattle.sheet.specs.Bytes.{Bytes, twoLimit}
 use Rattle.sheet.specs.Sheet.{Contents, encode}
-use Rattle.sheet.specs.Inner.{goodKit, fitting}
+use Rattle.sheet.specs.Inner.{goodKit, fitsSheet}
 use Rattle.sheet.specs.Reading.{decode, said}
 use Rattle.filling.specs.Filling.{filling}
 use Rattle.filling.specs.Inner as read
@@ -251,14 +251,14 @@ delete-kept l T m v e b = deleted (units l) (T .register) (T .nodes) m b (delete
 
 -- A sheet read
 module _ (s : List ℕ) (T : Tables) (v : ℕ) (h : Bytes s) (fits : registerLength (T .register) ≡ true)
-    (sized : nodesLength (T .nodes) ≡ true) (e : answer (read.reading s T) ≡ done v) where
+    (sized : nodesLength (T .nodes) ≡ true) (e : answer (read.readingInto s T) ≡ done v) where
   abbrev c : Contents
   c = said (decode s)
 
   abbrev F : Tables
   F = filling (said (decode s)) T
 
-  again : (encode (said (decode s)) ≡ s) × (fitting (said (decode s)) ≡ true)
+  again : (encode (said (decode s)) ≡ s) × (fitsSheet (said (decode s)) ≡ true)
   again = filled.said-again s h (filled.accepted s T v e .faultless)
 
   what-fits : Fits (said (decode s))
@@ -307,8 +307,8 @@ module _ (s : List ℕ) (T : Tables) (v : ℕ) (h : Bytes s) (e : answer (readin
       let y = done-passes _ _ _ _ (x .1) in
       (not-false _ (x .0), not-false _ (y .0))
 
-  behind-lengths : answer (read.reading s T) ≡ done v
-  unfolding answer reading read.reading
+  behind-lengths : answer (read.readingInto s T) ≡ done v
+  unfolding answer reading read.readingInto
   behind-lengths = done-parts (lengths T) _ 0 _ v e .1
 
   -- the tables that it leaves have just what the sheet says, and their old lengths

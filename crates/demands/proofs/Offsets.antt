@@ -12,7 +12,7 @@ use Rattle.ground.specs.Lists.{eqList, isZero}
 use Rattle.nodes.specs.Held.{Kit}
 use Rattle.sheet.specs.Bytes.{fromBytes, Bytes, twoLimit}
 use Rattle.sheet.specs.Sheet.{Contents, mark, placeBytes}
-use Rattle.sheet.specs.Reading.{Item, item, fault, Reading, onward, one, bytes, isVersion, partCount, anyTwo, numberSize, newNumber}
+use Rattle.sheet.specs.Reading.{Item, item, fault, Reading, onward, one, bytes, isVersion, goodPartCount, anyTwo, numberSize, newNumber}
 use Rattle.sheet.specs.Reading.{numbers, recordSize, newKit, kitIn, Run, stop, also, unless, records, Front, front, runOf, whole, decode}
 use Rattle.sheet.specs.Reading.{offset}
 use Rattle.sheet.proofs.Numbers.{bytes-take, bytes-drop, from-less}
@@ -73,8 +73,8 @@ record Announced (f : Front) (bs : List ℕ) : Type 0 where
   few : f .announced < twoLimit
   behind : Bytes bs
 
-count-few : (b : List ℕ) → partCount b ≡ true → fromBytes b ≤ 255
-unfolding partCount
+count-few : (b : List ℕ) → goodPartCount b ≡ true → fromBytes b ≤ 255
+unfolding goodPartCount
 count-few b e = leb-true (fromBytes b) 255 e
 
 front-read : (s : List ℕ) → Bytes s → Read Announced frontMost (front s 0)
@@ -82,7 +82,7 @@ unfolding front bytes
 front-read s h =
     onward-read _ (one-read (bytes 3) (eqList mark) s 0 3 h (omega arith)) (omega arith) (λ m r1 o1 w1 l1.
     onward-read _ (one-read (bytes 2) isVersion r1 o1 5 (w1 .bytes-behind) (omega arith)) (omega arith) (λ v r2 o2 w2 l2.
-    onward-read _ (one-read (bytes 2) partCount r2 o2 7 (w2 .bytes-behind) (omega arith)) (omega arith) (λ p r3 o3 w3 l3.
+    onward-read _ (one-read (bytes 2) goodPartCount r2 o2 7 (w2 .bytes-behind) (omega arith)) (omega arith) (λ p r3 o3 w3 l3.
     onward-read _ (numbers-read (fromBytes p) [] r3 o3 (w3 .bytes-behind)) (omega (arith, count-few p (w3 .is-good))) (λ ns r4 o4 w4 l4.
     onward-read _ (one-read (bytes 2) anyTwo r4 o4 frontMost w4 (omega (arith, count-few p (w3 .is-good)))) (omega arith) (λ k r5 o5 w5 l5.
     read {o = o5} (record { few = from-less 2 k (w5 .long) (w5 .bytes-in); behind = w5 .bytes-behind }) l5)))))

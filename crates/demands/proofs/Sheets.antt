@@ -19,7 +19,7 @@ use Rattle.nodes.proofs.Listing.{order-mem, order-rises}
 use Rattle.nodes.proofs.Held.{held-tagged}
 use Rattle.sheet.specs.Bytes.{Bytes}
 use Rattle.sheet.specs.Sheet.{Contents, encode}
-use Rattle.sheet.specs.Inner.{fitting}
+use Rattle.sheet.specs.Inner.{fitsSheet}
 use Rattle.sheet.specs.Reading.{decode, said}
 use Rattle.sheet.proofs.Laws.{encode-injective}
 use Rattle.filling.proofs.RoundTrip.{SmallTags, catalogue-fits}
@@ -72,8 +72,8 @@ module _ {T : Tables} {m : Contents} (b : Brought T m) where
   small : SmallTags (T .nodes)
   small k i = every-mem (b .small) (order-mem k (m .kits) (subst (List·Memᴰ k) (b .kits) i))
 
-  fits : fitting (listedIn m) ≡ true
-  fits = subst (λ (c : Contents). fitting c ≡ true) (has-contents b) (catalogue-fits (b .ready) (b .sound) small)
+  fits : fitsSheet (listedIn m) ≡ true
+  fits = subst (λ (c : Contents). fitsSheet c ≡ true) (has-contents b) (catalogue-fits (b .ready) (b .sound) small)
 
   have-tags : Every HasTag (inOrder (m .kits))
   have-tags = mem-every (inOrder (m .kits)) (λ k i. held-tagged (b .sound .shape) k (subst (List·Memᴰ k) (sym (b .kits)) i))

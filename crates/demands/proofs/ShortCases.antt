@@ -23,7 +23,7 @@ use Rattle.sheet.specs.Sheet.{numberItem, numberItems, lineItems, recordItem, r
 use Rattle.lent.specs.Lent.{lengths, lentBoth, lentList}
 use Rattle.catalogue.specs.Calls.{planOf, inserting, deleting, anyKit, allKits, almostKits, writing}
 use Rattle.catalogue.specs.Demands.{run, log, begun, tablesOf}
-use Rattle.demands.specs.ShortCases.{inserted, holding, asked, askedAlmost, struck, ShortCases, AlmostCases, entries, later, desk, replies, DeskExample}
+use Rattle.demands.specs.ShortCases.{insertRows, holding, listedBy, askedAlmost, struck, ShortCases, AlmostCases, entries, later, desk, replies, DeskExample}
 
 -- opens every definition
 unfoldable opened : Bool
@@ -34,7 +34,7 @@ unfolding allb anyb every keep distinct concat eqList from firstOr laid decide a
     parentGood depthGood labelGood fewEqual linksInside childGood nextGood onChain endTagged tagsDiffer usedOthers nodesSound putKit inOrder
     tagIn tagsOf kitAt held hasLabel childWith lastBelow linkTo link unlink lowestFree enter lacks nodeOf prune strikeAt strike
     entryRefusals missingRefusals isWithin isContaining fitting allOf lengths lentBoth lentList planOf inserting deleting allKits almostKits
-    sumOver lacking shortfall shortOf isAlmost shortsOf setBoth run begun tablesOf inserted holding asked askedAlmost struck firstTag anyOf
+    sumOver lacking shortfall shortOf isAlmost shortsOf setBoth run begun tablesOf insertRows holding listedBy askedAlmost struck firstTag anyOf
     anyKit log writing encode numberItem numberItems lineItems recordItem recordItems inBytes entries later desk replies
 opened = true
 

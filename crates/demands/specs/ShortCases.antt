@@ -13,9 +13,9 @@ use Rattle.catalogue.specs.Calls.{Call, registerPart, insertKit, deleteKit, any
 use Rattle.catalogue.specs.Demands.{Question, log, tablesOf}
 
 -- kits inserted by their units, with the tags t, t + 1, ..
-unfoldable pub inserted : ℕ → List (List ℕ) → List Call
-inserted t [] = []
-inserted t (r ∷ rs) = insertKit (listOf r) t ∷ inserted (suc t) rs
+unfoldable pub insertRows : ℕ → List (List ℕ) → List Call
+insertRows t [] = []
+insertRows t (r ∷ rs) = insertKit (listOf r) t ∷ insertRows (suc t) rs
 
 -- the tables of a catalogue of the parts A, B, C and four nodes, with kits that have the tags 1, 2, ..
 unfoldable pub holding : List (List ℕ) → Tables
@@ -23,12 +23,12 @@ holding rs =
     tablesOf (record {
       slots = 3;
       room = 4;
-      calls = registerPart (65 ∷ []) ∷ registerPart (66 ∷ []) ∷ registerPart (67 ∷ []) ∷ inserted 1 rs;
+      calls = registerPart (65 ∷ []) ∷ registerPart (66 ∷ []) ∷ registerPart (67 ∷ []) ∷ insertRows 1 rs;
     })
 
 -- all kits that answer a question on some units: the reply, and an output of two places
-unfoldable pub asked : Question → List (List ℕ) → List ℕ → Reply × List ℕ
-asked question rs r = let p = allKits question (listOf r) (holding rs) (0 ∷ 0 ∷ []) in (answer p, memory p (0 ∷ 0 ∷ []))
+unfoldable pub listedBy : Question → List (List ℕ) → List ℕ → Reply × List ℕ
+listedBy question rs r = let p = allKits question (listOf r) (holding rs) (0 ∷ 0 ∷ []) in (answer p, memory p (0 ∷ 0 ∷ []))
 
 -- a kit deleted: the reply, and the nodes used then
 unfoldable pub struck : List (List ℕ) → List ℕ → Reply × ℕ
@@ -38,21 +38,21 @@ struck rs r = let p = deleting (listOf r) (holding rs) in (answer p, length (use
 abbrev pub ShortCases : Type 0
 ShortCases =
     -- none; within {1}; none
-    (asked isWithin [] (1 ∷ []) ≡ (done 0, 0 ∷ 0 ∷ []))
+    (listedBy isWithin [] (1 ∷ []) ≡ (done 0, 0 ∷ 0 ∷ []))
     -- (); within (); ()
-    × (asked isWithin ([] ∷ []) [] ≡ (done 1, 1 ∷ 0 ∷ []))
+    × (listedBy isWithin ([] ∷ []) [] ≡ (done 1, 1 ∷ 0 ∷ []))
     -- (); containing {1}; none
-    × (asked isContaining ([] ∷ []) (1 ∷ []) ≡ (done 0, 0 ∷ 0 ∷ []))
+    × (listedBy isContaining ([] ∷ []) (1 ∷ []) ≡ (done 0, 0 ∷ 0 ∷ []))
     -- (1), (1, 1); within {1}; (1)
-    × (asked isWithin ((1 ∷ []) ∷ (1 ∷ 1 ∷ []) ∷ []) (1 ∷ []) ≡ (done 1, 1 ∷ 0 ∷ []))
+    × (listedBy isWithin ((1 ∷ []) ∷ (1 ∷ 1 ∷ []) ∷ []) (1 ∷ []) ≡ (done 1, 1 ∷ 0 ∷ []))
     -- (1), (1, 1); containing {1}; (1), (1, 1)
-    × (asked isContaining ((1 ∷ []) ∷ (1 ∷ 1 ∷ []) ∷ []) (1 ∷ []) ≡ (done 2, 1 ∷ 2 ∷ []))
+    × (listedBy isContaining ((1 ∷ []) ∷ (1 ∷ 1 ∷ []) ∷ []) (1 ∷ []) ≡ (done 2, 1 ∷ 2 ∷ []))
     -- (1, 3); containing {3}; (1, 3)
-    × (asked isContaining ((1 ∷ 3 ∷ []) ∷ []) (3 ∷ []) ≡ (done 1, 1 ∷ 0 ∷ []))
+    × (listedBy isContaining ((1 ∷ 3 ∷ []) ∷ []) (3 ∷ []) ≡ (done 1, 1 ∷ 0 ∷ []))
     -- (2); within {1, 2}; (2)
-    × (asked isWithin ((2 ∷ []) ∷ []) (1 ∷ 2 ∷ []) ≡ (done 1, 1 ∷ 0 ∷ []))
+    × (listedBy isWithin ((2 ∷ []) ∷ []) (1 ∷ 2 ∷ []) ≡ (done 1, 1 ∷ 0 ∷ []))
     -- (1, 2), (2); within {2, 3}; (2)
-    × (asked isWithin ((1 ∷ 2 ∷ []) ∷ (2 ∷ []) ∷ []) (2 ∷ 3 ∷ []) ≡ (done 1, 2 ∷ 0 ∷ []))
+    × (listedBy isWithin ((1 ∷ 2 ∷ []) ∷ (2 ∷ []) ∷ []) (2 ∷ 3 ∷ []) ≡ (done 1, 2 ∷ 0 ∷ []))
     -- (1), (1, 2); delete (1), nodes used; 3
     × (struck ((1 ∷ []) ∷ (1 ∷ 2 ∷ []) ∷ []) (1 ∷ []) ≡ (done 1, 3))
     -- (1), (1, 2); delete (1, 2), nodes used; 2

@@ -26,10 +26,10 @@ use Rattle.answers.proofs.Answers.{done-or-refused}
 use Rattle.desk_text.specs.Amounts.{amountOf}
 use Rattle.desk_text.specs.Letters as letter
 use Rattle.desk_text.specs.Lines.{goodLine, fieldsOf}
-use Rattle.desk_replies.specs.Replies.{replyLine, otherLine, tagsOf, Put}
+use Rattle.desk_replies.specs.Replies.{replyLine, otherLine, tagsText, Put}
 use Rattle.desk_replies.proofs.Replies.{put-same}
 use Rattle.desk_lists.specs.Typed.{Typed, typed, stopped, lookedUp}
-use Rattle.desk_lists.specs.Inner.{said}
+use Rattle.desk_lists.specs.Inner.{typedAs}
 use Rattle.desk_lines.specs.Desk.{Answered, typedFields, called, shown, registerLine, writeLine, withList, asked, askLine, insertLine, inserted, wellFormed, atDesk, Answers}
 use Rattle.desk_lines.specs.Inner.{setDownBy, printed}
 
@@ -149,19 +149,19 @@ register-put l R N n a M e q h =
 
 -- a list that was read, n words of it, or a lookup that was refused
 module _ {old new : List ℕ} {r : ℕ} (x : ℕ) (T : Tables) (asks : List ℕ → Answered) (res : Reply) (out : List ℕ) (t : Typed)
-    (s : said res out ≡ t) where
+    (s : typedAs res out ≡ t) where
   pub with-typed : (n : ℕ) (U : Tables) → n ≡ valueOf res → isRefused res ≡ false → Answers (asks (take n out)) old r new U →
       Answers (withList x T asks t) old r new U
   unfolding withList
   with-typed n U f e h =
-      let q : t ≡ typed (take n out) = sym s ∙ ap (λ (z : Reply). said z out) (passed-done res e) ∙ ap (λ k. typed (take k out)) (sym f) in
+      let q : t ≡ typed (take n out) = sym s ∙ ap (λ (z : Reply). typedAs z out) (passed-done res e) ∙ ap (λ k. typed (take k out)) (sym f) in
       rw q h
 
   pub with-stopped : isRefused res ≡ true → Put old 0 (replyLine x (numberOf res) (valueOf res) []) r new →
       Answers (withList x T asks t) old r new T
   unfolding withList
   with-stopped e h =
-      let q : t ≡ stopped (numberOf res) (valueOf res) = sym s ∙ ap (λ (z : Reply). said z out) (refused-says res e) in
+      let q : t ≡ stopped (numberOf res) (valueOf res) = sym s ∙ ap (λ (z : Reply). typedAs z out) (refused-says res e) in
       rw q (record { put = h; left = refl })
 
 -- what is asked of a list, by the letter
@@ -193,7 +193,7 @@ module _ {old new : List ℕ} {r : ℕ} (x : ℕ) (o : List ℕ) (T : Tables) (l
             rw (ne-eqb x letter.finds n1, ne-eqb x letter.deletes n2, ne-eqb x letter.anyWithin n3, eq-eqb x letter.anyContaining e)
             (called-put x T (anyKit isContaining l T) a T (containing-keeps l T a f) h)
 
-        module _ (n4 : x ≡ letter.anyContaining → ⊥) (m : List ℕ) (h : Put old 0 (printed x tagsOf a m) r new) where
+        module _ (n4 : x ≡ letter.anyContaining → ⊥) (m : List ℕ) (h : Put old 0 (printed x tagsText a m) r new) where
           pub asked-all-within : x ≡ letter.allWithin → Promise (allKits isWithin l T o) o a m → Answers (asked x o T l) old r new T
           unfolding asked
           asked-all-within e q =
@@ -204,7 +204,7 @@ module _ {old new : List ℕ} {r : ℕ} (x : ℕ) (o : List ℕ) (T : Tables) (l
                 ne-eqb x letter.anyContaining n4,
                 eq-eqb x letter.allWithin e,
               )
-              (record { put = shown-put x tagsOf (allKits isWithin l T o) o a m q h; left = refl })
+              (record { put = shown-put x tagsText (allKits isWithin l T o) o a m q h; left = refl })
 
           pub asked-all-containing : (x ≡ letter.allWithin → ⊥) → Promise (allKits isContaining l T o) o a m →
               Answers (asked x o T l) old r new T
@@ -217,11 +217,11 @@ module _ {old new : List ℕ} {r : ℕ} (x : ℕ) (o : List ℕ) (T : Tables) (l
                 ne-eqb x letter.anyContaining n4,
                 ne-eqb x letter.allWithin n5,
               )
-              (record { put = shown-put x tagsOf (allKits isContaining l T o) o a m q h; left = refl })
+              (record { put = shown-put x tagsText (allKits isContaining l T o) o a m q h; left = refl })
 
 -- a line that asks something of a list, and one that inserts
 module _ {old new : List ℕ} {r : ℕ} (l : List ℕ) (T : Tables) (res : Reply) (out : List ℕ) (fs : List (List ℕ))
-    (s : said res out ≡ lookedUp (T .register) fs) where
+    (s : typedAs res out ≡ lookedUp (T .register) fs) where
   module _ (x : ℕ) (o : List ℕ) (b : typedFields l ≡ fs) where
     pub ask-typed : (n : ℕ) (U : Tables) → n ≡ valueOf res → isRefused res ≡ false → Answers (asked x o T (take n out)) old r new U →
         Answers (askLine x l o T) old r new U

@@ -13,7 +13,7 @@ use Rattle.ground.proofs.Laws.{and-left, and-right, every-at, below-or}
 use Rattle.desk_text.specs.Inner.{EndOf, upTo}
 use Rattle.desk_text.specs.Amounts.{goodAmount}
 use Rattle.desk_text.specs.Letters.{registers, inserts, writes, takesList}
-use Rattle.desk_text.specs.Lines.{space, longestLine, fieldsOf, fieldsFrom, filled, goodPairs, goodKit, goodBehind, goodFields, goodLine}
+use Rattle.desk_text.specs.Lines.{space, longestLine, fieldsOf, fieldsFrom, filled, goodPairs, goodKitFields, goodBehind, goodFields, goodLine}
 use Rattle.desk_text.proofs.Parted.{parted-from, from-step, end-there}
 use Rattle.desk_text.proofs.Lines.{fieldAt, all-from, filled-yes, count-step, count-end, kit-step, kit-end, letter-other, letter-one}
 use Rattle.desk_text.proofs.Lines.{behind-registers, behind-inserts, behind-other, behind-list}
@@ -91,8 +91,8 @@ module _ (l : List ℕ) (g : goodLine l ≡ true) where
 
   -- "K tag, then number and quantity pairs"
   module _ (x : getD l 0 0 ≡ inserts) where
-    kit-good : goodKit (fieldsFrom l 2) ≡ true
-    kit-good = behind-inserts (getD l 0 0) (fieldsFrom l 2) (λ q. absurd (omega arith)) (goodKit (fieldsFrom l 2)) x refl ∙ behind-good
+    kit-good : goodKitFields (fieldsFrom l 2) ≡ true
+    kit-good = behind-inserts (getD l 0 0) (fieldsFrom l 2) (λ q. absurd (omega arith)) (goodKitFields (fieldsFrom l 2)) x refl ∙ behind-good
 
     pub tag-there : 2 ≤ length l
     tag-there = go (below-or (length l) 2)

@@ -13,7 +13,7 @@ use Rattle.catalogue.specs.Calls.{allKits, writing}
 use Rattle.desk_text.specs.Letters as letter
 use Rattle.desk_text.specs.Lines.{goodLine}
 use Rattle.desk_lists.specs.Typed.{typed, stopped, lookedUp}
-use Rattle.desk_lists.specs.Inner.{said}
+use Rattle.desk_lists.specs.Inner.{typedAs}
 use Rattle.desk_lines.specs.Desk.{typedFields, atDesk, Answers}
 use Rattle.desk_lines.specs.Inner.{askedPlaces, typedPlaces, askPlaces, placesAfter, sheetAfter, Outputs}
 
@@ -64,8 +64,8 @@ module _ (x : ℕ) (o : List ℕ) (T : Tables) (l : List ℕ) where
 
 -- a list that was read, or a lookup that was refused
 module _ (x : ℕ) (l o : List ℕ) (T : Tables) (res : Reply) (out : List ℕ) (fs : List (List ℕ))
-    (s : said res out ≡ lookedUp (T .register) fs) (b : typedFields l ≡ fs) where
-  typed-is : said res out ≡ lookedUp (T .register) (typedFields l)
+    (s : typedAs res out ≡ lookedUp (T .register) fs) (b : typedFields l ≡ fs) where
+  typed-is : typedAs res out ≡ lookedUp (T .register) (typedFields l)
   typed-is = s ∙ ap (lookedUp (T .register)) (sym b)
 
   pub ask-lists : (n : ℕ) (m : List ℕ) → n ≡ valueOf res → isRefused res ≡ false → m ≡ askedPlaces x o T (take n out) →
@@ -73,14 +73,14 @@ module _ (x : ℕ) (l o : List ℕ) (T : Tables) (res : Reply) (out : List ℕ) 
   unfolding typedPlaces
   ask-lists n m g e f =
       let q : lookedUp (T .register) (typedFields l) ≡ typed (take n out) =
-      sym typed-is ∙ ap (λ (z : Reply). said z out) (passed-done res e) ∙ ap (λ k. typed (take k out)) (sym g) in
+      sym typed-is ∙ ap (λ (z : Reply). typedAs z out) (passed-done res e) ∙ ap (λ k. typed (take k out)) (sym g) in
       rw q f
 
   pub stop-leaves : isRefused res ≡ true → o ≡ askPlaces x l o T
   unfolding typedPlaces
   stop-leaves e =
       let q : lookedUp (T .register) (typedFields l) ≡ stopped (numberOf res) (valueOf res) =
-      sym typed-is ∙ ap (λ (z : Reply). said z out) (refused-says res e) in
+      sym typed-is ∙ ap (λ (z : Reply). typedAs z out) (refused-says res e) in
       rw q
 
 -- a line, by its letter

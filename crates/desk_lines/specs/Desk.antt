@@ -13,7 +13,7 @@ use Rattle.catalogue.specs.Calls.{onRegister, inserting, finding, deleting, any
 use Rattle.desk_text.specs.Amounts.{amountOf}
 use Rattle.desk_text.specs.Letters as letter
 use Rattle.desk_text.specs.Lines.{space, fieldsOf, goodLine}
-use Rattle.desk_replies.specs.Replies.{hexOf, tagsOf, replyLine, otherLine, Put}
+use Rattle.desk_replies.specs.Replies.{hexOf, tagsText, replyLine, otherLine, Put}
 use Rattle.desk_lists.specs.Typed.{Typed, typed, stopped, lookedUp}
 
 -- a reply, and the tables afterwards
@@ -65,8 +65,8 @@ asked x o T l =
     (cond (eqb x letter.deletes) (called x (deleting l T) T)
     (cond (eqb x letter.anyWithin) (called x (anyKit isWithin l T) T)
     (cond (eqb x letter.anyContaining) (called x (anyKit isContaining l T) T)
-    (cond (eqb x letter.allWithin) (record { says = shown x tagsOf (allKits isWithin l T o) o; after = T })
-    (record { says = shown x tagsOf (allKits isContaining l T o) o; after = T })))))
+    (cond (eqb x letter.allWithin) (record { says = shown x tagsText (allKits isWithin l T o) o; after = T })
+    (record { says = shown x tagsText (allKits isContaining l T o) o; after = T })))))
 
 unfoldable pub askLine : ℕ → List ℕ → List ℕ → Tables → Answered
 askLine x l o T = withList x T (asked x o T) (lookedUp (T .register) (typedFields l))

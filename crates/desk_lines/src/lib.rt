@@ -12,7 +12,7 @@ ghost use Rattle.catalogue.specs.Calls.{writing};
 ghost use Rattle.desk_text.specs.Lines.{goodLine};
 ghost use Rattle.desk_text.specs.Letters.{registers, inserts};
 ghost use Rattle.desk_text.specs.Letters.{writes as writesLetter};
-ghost use Rattle.desk_replies.specs.Replies.{replyLine, tagsOf, Put};
+ghost use Rattle.desk_replies.specs.Replies.{replyLine, tagsText, Put};
 ghost use Rattle.desk_replies.specs.Inner.{headRoom, tagRoom};
 ghost use Rattle.desk_lists.specs.Inner.{Pairs};
 ghost use Rattle.desk_lines.specs.Desk.{sheetText, registerLine, writeLine, insertLine, asked, askLine, atDesk, Answers};
@@ -50,7 +50,7 @@ fn put_answer(out: &mut [u8], letter: u8, a: Answer) -> usize
 // Replies with the tags that a listing has set down.
 fn put_listed(out: &mut [u8], letter: u8, a: Answer, places: &[u16]) -> usize
     requires { ⌜ headRoom + tagRoom * length (now places) + 1 ≤ length (now out) ⌝ ∗ ⌜ setDownBy (reply a) ≤ length (now places) ⌝ }
-    ensures { λ r. ⌜ Put (now (out .entry)) 0 (printed letter tagsOf (reply a) (now (places .entry))) r (now (out .exit)) ⌝ }
+    ensures { λ r. ⌜ Put (now (out .entry)) 0 (printed letter tagsText (reply a) (now (places .entry))) r (now (out .exit)) ⌝ }
 {
     let r = reply_of(a);
     let n = r.value;

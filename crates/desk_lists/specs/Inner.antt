@@ -22,10 +22,10 @@ pub record Pairs (l : List ℕ) (at : ℕ) : Type 0 where
   pub good : goodPairs (fieldsFrom l at) ≡ true
 
 -- what the reply of reading a list says of the output where the list stands
-abbrev pub said : Reply → List ℕ → Typed
-said (done n) out = typed (take n out)
-said (refused n v) out = stopped n v
+abbrev pub typedAs : Reply → List ℕ → Typed
+typedAs (done n) out = typed (take n out)
+typedAs (refused n v) out = stopped n v
 
 pub record ReadAs (R l : List ℕ) (at : ℕ) (r : Reply) (out : List ℕ) : Type 0 where
-  pub says : said r out ≡ lookedUp R (fieldsFrom l at)
+  pub says : typedAs r out ≡ lookedUp R (fieldsFrom l at)
   pub inside : leaves r 0 (valueOf r) ≤ length out

@@ -15,7 +15,7 @@ use Rattle.ground.proofs.Laws.{below-or}
 use Rattle.ground.proofs.Laid.{laid-nil, laid-one, laid-laid, length-laid}
 use Rattle.desk_text.specs.Amounts.{zeroDigit}
 use Rattle.desk_text.specs.Lines.{space, lineFeed}
-use Rattle.desk_replies.specs.Replies.{digits, decimal, hexDigit, hexOf, tagsOf, replyHead, replyLine, Put}
+use Rattle.desk_replies.specs.Replies.{digits, decimal, hexDigit, hexOf, tagsText, replyHead, replyLine, Put}
 use Rattle.desk_replies.specs.Inner.{headRoom, tagRoom}
 
 -- room for as many digits as a number has units is room enough
@@ -103,12 +103,12 @@ rest-end {o} {all} {out} {rest} {from} {at} t e =
 
 -- tags and bytes walked by position
 module _ (l : List ℕ) (i : ℕ) where
-  pub tags-step : i < length l → tagsOf (drop i l) ≡ (space ∷ decimal (getD l i 0)) ++ tagsOf (drop (i + 1) l)
-  unfolding tagsOf
+  pub tags-step : i < length l → tagsText (drop i l) ≡ (space ∷ decimal (getD l i 0)) ++ tagsText (drop (i + 1) l)
+  unfolding tagsText
   tags-step h = rw (add-one, drop-cons l i 0 h)
 
-  pub tags-end : length l ≤ i → tagsOf (drop i l) ≡ []
-  unfolding tagsOf
+  pub tags-end : length l ≤ i → tagsText (drop i l) ≡ []
+  unfolding tagsText
   tags-end h = rw (drop-of-length-le l h)
 
   pub hex-step : i < length l → hexOf (drop i l) ≡ hexDigit (getD l i 0 / 16) ∷ hexDigit (getD l i 0 % 16) ∷ hexOf (drop (i + 1) l)
@@ -180,12 +180,12 @@ head-short letter n v h g =
     let e = length-append (decimal n) (space ∷ decimal v) in
     omega (arith, decimal-20 n h, decimal-20 v g)
 
-pub tags-short : (l : List ℕ) → ((i : ℕ) → getD l i 0 < 65536) → length (tagsOf l) ≤ tagRoom * length l
-unfolding tagsOf
+pub tags-short : (l : List ℕ) → ((i : ℕ) → getD l i 0 < 65536) → length (tagsText l) ≤ tagRoom * length l
+unfolding tagsText
 tags-short [] f = omega arith
 tags-short (t ∷ ts) f =
     let r = tags-short ts (λ i. f (suc i)) in
-    let e = length-append (decimal t) (tagsOf ts) in
+    let e = length-append (decimal t) (tagsText ts) in
     let z = f 0 in
     omega (arith, decimal-5 t (omega arith))
 
@@ -216,9 +216,9 @@ module _ (letter : ℕ) (o : List ℕ) where
   reply-room n v h g f = omega (arith, line-length letter n v [], head-short letter n v h g)
 
   pub listing-room : (ts : List ℕ) → ((i : ℕ) → getD ts i 0 < 65536) → length ts < 100000000000000000000 →
-      headRoom + tagRoom * length ts + 1 ≤ length o → length (replyLine letter 0 (length ts) (tagsOf ts)) ≤ length o
+      headRoom + tagRoom * length ts + 1 ≤ length o → length (replyLine letter 0 (length ts) (tagsText ts)) ≤ length o
   listing-room ts w h f =
-      omega (arith, line-length letter 0 (length ts) (tagsOf ts), head-short letter 0 (length ts) (omega arith) h, tags-short ts w)
+      omega (arith, line-length letter 0 (length ts) (tagsText ts), head-short letter 0 (length ts) (omega arith) h, tags-short ts w)
 
   pub sheet-room : (s : List ℕ) → length s < 100000000000000000000 → headRoom + 1 + 2 * length s + 1 ≤ length o →
       length (replyLine letter 0 (length s) (space ∷ hexOf s)) ≤ length o

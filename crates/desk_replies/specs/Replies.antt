@@ -27,9 +27,9 @@ hexOf [] = []
 hexOf (b ∷ bs) = hexDigit (b / 16) ∷ hexDigit (b % 16) ∷ hexOf bs
 
 -- tags, each behind a space
-unfoldable pub tagsOf : List ℕ → List ℕ
-tagsOf [] = []
-tagsOf (t ∷ ts) = (space ∷ decimal t) ++ tagsOf ts
+unfoldable pub tagsText : List ℕ → List ℕ
+tagsText [] = []
+tagsText (t ∷ ts) = (space ∷ decimal t) ++ tagsText ts
 
 -- "letter, number, value"
 unfoldable pub replyHead : ℕ → ℕ → ℕ → List ℕ

@@ -5,7 +5,7 @@ ghost use Prim.Native.Nat.{_+_, _*_, _<_, _≤_};
 ghost use lib.ListN.{length};
 ghost use Rattle.desk_text.specs.Amounts.{zeroDigit};
 ghost use Rattle.desk_text.specs.Lines.{space};
-ghost use Rattle.desk_replies.specs.Replies.{decimal, hexDigit, hexOf, tagsOf, replyHead, replyLine, otherLine, Put};
+ghost use Rattle.desk_replies.specs.Replies.{decimal, hexDigit, hexOf, tagsText, replyHead, replyLine, otherLine, Put};
 ghost use Rattle.desk_replies.specs.Inner.{headRoom, tagRoom};
 use desk_text::LINE_FEED;
 use desk_text::SPACE;
@@ -44,8 +44,8 @@ pub fn put_decimal(out: &mut [u8], at: usize, n: usize) -> usize
 
 // Sets tags down, each behind a space.
 pub fn put_tags(out: &mut [u8], from: usize, tags: &[u16]) -> usize
-    requires { ⌜ from + length (tagsOf (now tags)) ≤ length (now out) ⌝ }
-    ensures { λ r. ⌜ Put (now (out .entry)) from (tagsOf (now (tags .entry))) r (now (out .exit)) ⌝ }
+    requires { ⌜ from + length (tagsText (now tags)) ≤ length (now out) ⌝ }
+    ensures { λ r. ⌜ Put (now (out .entry)) from (tagsText (now (tags .entry))) r (now (out .exit)) ⌝ }
 {
     let mut at = from;
     let mut i = 0;
@@ -115,7 +115,7 @@ pub fn put_reply(out: &mut [u8], letter: u8, number: usize, value: usize) -> usi
 // Sets the whole reply of a listing that is done down.
 pub fn put_listing(out: &mut [u8], letter: u8, tags: &[u16]) -> usize
     requires { ⌜ headRoom + tagRoom * length (now tags) + 1 ≤ length (now out) ⌝ }
-    ensures { λ r. ⌜ Put (now (out .entry)) 0 (replyLine letter 0 (length (now (tags .entry))) (tagsOf (now (tags .entry)))) r (now (out .exit)) ⌝ }
+    ensures { λ r. ⌜ Put (now (out .entry)) 0 (replyLine letter 0 (length (now (tags .entry))) (tagsText (now (tags .entry)))) r (now (out .exit)) ⌝ }
 {
     let mut at = put_head(out, letter, 0, tags.len());
     at = put_tags(out, at, tags);

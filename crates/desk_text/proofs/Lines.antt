@@ -11,7 +11,7 @@ use borrow.Author.Tests.{eq-eqb, ne-eqb, le-leb, lt-leb}
 use Rattle.ground.specs.Lists.{allb, anyb, every}
 use Rattle.desk_text.specs.Inner.{EndOf}
 use Rattle.desk_text.specs.Amounts.{goodAmount}
-use Rattle.desk_text.specs.Lines.{space, longestLine, fieldsOf, fieldsFrom, filled, goodPairs, goodKit, goodBehind, goodFields, goodLine}
+use Rattle.desk_text.specs.Lines.{space, longestLine, fieldsOf, fieldsFrom, filled, goodPairs, goodKitFields, goodBehind, goodFields, goodLine}
 use Rattle.desk_text.specs.Letters.{registers, inserts, writes, takesList}
 use Rattle.desk_text.proofs.Parted.{from-none, from-step, parted-from}
 
@@ -38,8 +38,8 @@ module _ (l : List ℕ) (at r : ℕ) (h : at ≤ length l) (e : EndOf l at space
   pub count-step : length (fieldsFrom l at) ≡ suc (length (fieldsFrom l (r + 1)))
   count-step = rw (from-step space l at r h e)
 
-  pub kit-step : goodKit (fieldsFrom l at) ≡ (goodAmount (fieldAt l at r) && goodPairs (fieldsFrom l (r + 1)))
-  unfolding goodKit
+  pub kit-step : goodKitFields (fieldsFrom l at) ≡ (goodAmount (fieldAt l at r) && goodPairs (fieldsFrom l (r + 1)))
+  unfolding goodKitFields
   kit-step = rw (from-step space l at r h e)
 
   pub pairs-odd : r ≡ length l → goodPairs (fieldsFrom l at) ≡ false
@@ -58,10 +58,10 @@ module _ (l : List ℕ) (at r : ℕ) (h : at ≤ length l) (e : EndOf l at space
     pub pairs-yes : goodAmount (fieldAt l (r + 1) s) ≡ true → goodPairs (fieldsFrom l at) ≡ goodPairs (fieldsFrom l (s + 1))
     pairs-yes q = rw (pairs-step s g f, q)
 
-  pub kit-no : goodAmount (fieldAt l at r) ≡ false → goodKit (fieldsFrom l at) ≡ false
+  pub kit-no : goodAmount (fieldAt l at r) ≡ false → goodKitFields (fieldsFrom l at) ≡ false
   kit-no q = rw (kit-step, q)
 
-  pub kit-yes : goodAmount (fieldAt l at r) ≡ true → goodKit (fieldsFrom l at) ≡ goodPairs (fieldsFrom l (r + 1))
+  pub kit-yes : goodAmount (fieldAt l at r) ≡ true → goodKitFields (fieldsFrom l at) ≡ goodPairs (fieldsFrom l (r + 1))
   kit-yes q = rw (kit-step, q)
 
 module _ (l : List ℕ) (at : ℕ) (h : length l < at) where
@@ -72,8 +72,8 @@ module _ (l : List ℕ) (at : ℕ) (h : length l < at) where
   pub count-end : length (fieldsFrom l at) ≡ 0
   count-end = rw (from-none space l at h)
 
-  pub kit-end : goodKit (fieldsFrom l at) ≡ false
-  unfolding goodKit
+  pub kit-end : goodKitFields (fieldsFrom l at) ≡ false
+  unfolding goodKitFields
   kit-end = rw (from-none space l at h)
 
   pub pairs-end : goodPairs (fieldsFrom l at) ≡ true
@@ -106,7 +106,7 @@ module _ (x : ℕ) (fs : List (List ℕ)) where
   behind-registers n e f = rw (eq-eqb x registers e, f)
 
   module _ (p : x ≡ registers → ⊥) where
-    pub behind-inserts : (b : Bool) → x ≡ inserts → b ≡ goodKit fs → b ≡ goodBehind x fs
+    pub behind-inserts : (b : Bool) → x ≡ inserts → b ≡ goodKitFields fs → b ≡ goodBehind x fs
     unfolding goodBehind
     behind-inserts b e f = rw (ne-eqb x registers p, eq-eqb x inserts e) f
 

@@ -36,15 +36,15 @@ goodPairs (n ∷ []) = false
 goodPairs (n ∷ q ∷ fs) = goodAmount q && goodPairs fs
 
 -- "tag, then number and quantity pairs"
-unfoldable pub goodKit : List (List ℕ) → Bool
-goodKit [] = false
-goodKit (t ∷ fs) = goodAmount t && goodPairs fs
+unfoldable pub goodKitFields : List (List ℕ) → Bool
+goodKitFields [] = false
+goodKitFields (t ∷ fs) = goodAmount t && goodPairs fs
 
 -- what may stand behind a letter
 unfoldable pub goodBehind : ℕ → List (List ℕ) → Bool
 goodBehind x fs =
     cond (eqb x registers) (eqb (length fs) 1)
-    (cond (eqb x inserts) (goodKit fs)
+    (cond (eqb x inserts) (goodKitFields fs)
     (cond (eqb x writes) (eqb (length fs) 0)
     (anyb (eqb x) takesList && goodPairs fs)))
 

@@ -8,7 +8,7 @@ ghost use Rattle.ground.specs.Lists.{allb, anyb};
 ghost use Rattle.desk_text.specs.Inner.{EndOf, amountWhere, amountIn};
 ghost use Rattle.desk_text.specs.Amounts.{largestAmount, isDigit, leadingZero, small, amountOf};
 ghost use Rattle.desk_text.specs.Letters.{takesList};
-ghost use Rattle.desk_text.specs.Lines.{fieldsOf, fieldsFrom, filled, goodPairs, goodKit, goodBehind, goodLine};
+ghost use Rattle.desk_text.specs.Lines.{fieldsOf, fieldsFrom, filled, goodPairs, goodKitFields, goodBehind, goodLine};
 use ground::wide8;
 
 pub const LONGEST_LINE: usize = 512;
@@ -192,7 +192,7 @@ fn good_pairs(line: &[u8], from: usize) -> bool
 // Whether the fields from a position on are a tag and pairs.
 fn good_kit(line: &[u8], from: usize) -> bool
     requires { ⌜ from ≤ length (now line) + 1 ⌝ }
-    ensures { λ r. ⌜ r ≡ goodKit (fieldsFrom (now (line .entry)) from) ⌝ }
+    ensures { λ r. ⌜ r ≡ goodKitFields (fieldsFrom (now (line .entry)) from) ⌝ }
 {
     if line.len() < from {
         return false;

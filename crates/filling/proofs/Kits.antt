@@ -8,7 +8,7 @@ use lib.ListN.{length, take, drop}
 use Rattle.ground.specs.Laid.{zeroed}
 use Rattle.ground.specs.Calls.{Reply, Promise}
 use Rattle.kits.specs.Kits.{mostUnits, mostPlace, units}
-use Rattle.kits.specs.Inner.{GoodRow, unitsIn, rowOf}
+use Rattle.kits.specs.Inner.{GoodRow, unitsIn, fixedRow}
 use Rattle.kits.specs.declared.Row.{Row}
 use Rattle.kits.proofs.Rows.{row-back}
 use Rattle.nodes.specs.Inner.{Sound}
@@ -102,7 +102,7 @@ module _ {s : List ℕ} {from m : ℕ} {Z nodes : List ℕ} {at k : ℕ} (F : Fi
     }
 
     -- the record's row and tag, as they are read
-    module _ (row : Row) (e : row ≡ rowOf (units (listAt s at))) (t : ℕ) (f : t ≡ fromBytes (take 2 (drop at s))) where
+    module _ (row : Row) (e : row ≡ fixedRow (units (listAt s at))) (t : ℕ) (f : t ≡ fromBytes (take 2 (drop at s))) where
       is-row : unitsIn row ≡ kit .row
       is-row = rw e (row-back (units (listAt s at))) ∙ sym (row-is s at record-whole)
 

@@ -52,8 +52,8 @@ pub record GoodRow (n : ℕ) (r : List ℕ) : Type 0 where
 -- A kit "held once a checked list as a fixed row of 64 places with its length": rows, their order, and their lines
 
 -- the row of some units; what lies behind them is 0
-abbrev pub rowOf : List ℕ → Row
-rowOf us = record { places = us ++ replicate (mostUnits - length us) 0; len = length us }
+abbrev pub fixedRow : List ℕ → Row
+fixedRow us = record { places = us ++ replicate (mostUnits - length us) 0; len = length us }
 
 -- the units of a row
 abbrev pub unitsIn : Row → List ℕ
@@ -68,16 +68,16 @@ unfoldable pub quantities : List ℕ → List ℕ
 quantities l = map (quantity l) (from 0 (mostPlace + 1))
 
 -- how often p stands at the front of some units
-unfoldable pub run : ℕ → List ℕ → ℕ
-run p [] = 0
-run p (x ∷ xs) = cond (eqb x p) (suc (run p xs)) 0
+unfoldable pub runLength : ℕ → List ℕ → ℕ
+runLength p [] = 0
+runLength p (x ∷ xs) = cond (eqb x p) (suc (runLength p xs)) 0
 
 -- the line of some units that starts at a position, and where the next starts
 unfoldable pub lineAt : List ℕ → ℕ → Line
 lineAt us at = record {
   place = getD us at 0;
-  quantity = run (getD us at 0) (drop at us);
-  next = at + run (getD us at 0) (drop at us);
+  quantity = runLength (getD us at 0) (drop at us);
+  next = at + runLength (getD us at 0) (drop at us);
 }
 
 -- of how many lines the list of some units is

@@ -26,8 +26,8 @@ rising [] = true
 rising (k ∷ []) = true
 rising (k ∷ l ∷ ks) = before (k .row) (l .row) && rising (l ∷ ks)
 
-unfoldable pub fitting : Contents → Bool
-fitting c = every
+unfoldable pub fitsSheet : Contents → Bool
+fitsSheet c = every
     (leb (length (c .parts)) mostParts
     ∷ allb goodNumber (c .parts)
     ∷ distinct eqList (c .parts)

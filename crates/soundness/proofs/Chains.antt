@@ -22,7 +22,7 @@ use Rattle.nodes.proofs.Sorted.{rising-from, keep-short, keep-mem, mem-keep, no
 use Rattle.nodes.proofs.Rows.{used-pos, live-inside}
 use Rattle.nodes.proofs.Decided.{node-in, in-node}
 use Rattle.nodes.proofs.Chain.{left, left-less, chain-on, chain-step, chain-short, children-have, children-used, children-apart}
-use Rattle.soundness.specs.Inner.{Kin, chainLength, Chained}
+use Rattle.soundness.specs.Inner.{Kin, chainLength, AllChained}
 use Rattle.soundness.proofs.Answers.{says-eq}
 
 ------------------------------------------------------------------------
@@ -165,12 +165,12 @@ module _ {N : List ℕ} (K : Kin N) where
   all-fit = omega (arith, no-longer all wanted all-apart met-wanted, keep-short (named N) (nodesOf N), length-from 0 (size N))
 
   -- as many: all
-  counted-chained : length all ≡ length wanted → Chained N
+  counted-chained : length all ≡ length wanted → AllChained N
   counted-chained e = record {
     each = λ i u. met-is (nodesOf N) inside i (all-met all wanted all-apart met-wanted (omega arith) i (is-wanted i u)) .chained;
   }
 
-  chained-counted : Chained N → length all ≡ length wanted
+  chained-counted : AllChained N → length all ≡ length wanted
   chained-counted D = same-length all wanted all-apart (rising-keep (named N) (nodesOf N) nodes-apart) met-wanted (λ i m.
       let u : Used N i = wanted-is i m in
       let h : parent N i < size N = live-inside (K .links .up) (parent N i) (K .links .up .above i u) in
@@ -231,7 +231,7 @@ module _ {N : List ℕ} {n i used seen : ℕ} (s : Counting N n i used seen) whe
       unfolding named namedFrom
       count-free z = passed (omega arith) (omega (arith, countFrom-no (named N) n i g (ap not (eq-eqb (label N i) 0 (sym le ∙ z)))))
 
-  pub count-says : Kin N → n ≤ i → Says (Chained N) (eqb seen used)
+  pub count-says : Kin N → n ≤ i → Says (AllChained N) (eqb seen used)
   unfolding met metFrom namedFrom
   count-says K h =
       let a : seen ≡ length (met N (nodesOf N)) = omega

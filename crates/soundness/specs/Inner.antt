@@ -60,7 +60,7 @@ abbrev pub chainLength : List ℕ → ℕ → ℕ
 chainLength N h = length (chain N (size N) h)
 
 -- "every used node but the root is found on its parent's chain"
-pub record Chained (N : List ℕ) : Type 0 where
+pub record AllChained (N : List ℕ) : Type 0 where
   pub each : (i : ℕ) → Used N i → OnChain N (child N (parent N i)) i
 
 ------------------------------------------------------------------------

@@ -13,7 +13,7 @@ use Rattle.ground.specs.Laid.{laid}
 use Rattle.ground.proofs.Laws.{from-step, from-end, map-append, empty-list}
 use Rattle.ground.proofs.Laid.{laid-front}
 use Rattle.kits.specs.Kits.{mostUnits, mostPlace, linesFrom, listOf}
-use Rattle.kits.specs.Inner.{GoodRow, lineAt, unitsIn, rowOf}
+use Rattle.kits.specs.Inner.{GoodRow, lineAt, unitsIn, fixedRow}
 use Rattle.kits.specs.declared.Row.{Row}
 use Rattle.kits.specs.declared.Line.{Line}
 use Rattle.kits.proofs.Rows.{lines-from, line-next, no-lines, run-short, row-back}
@@ -58,7 +58,7 @@ module _ (N : List ℕ) where
   own-some i f = rw (ne-eqb (tag N i) 0 f) (append-nil (recordItem placeBytes (kitOf (nodeRow N i) (tag N i))))
 
   -- of the row and the tag that were read
-  pub own-record : (i : ℕ) (r : Row) (t : ℕ) → t ≡ tag N i → (t ≡ 0 → ⊥) → r ≡ rowOf (nodeRow N i) →
+  pub own-record : (i : ℕ) (r : Row) (t : ℕ) → t ≡ tag N i → (t ≡ 0 → ⊥) → r ≡ fixedRow (nodeRow N i) →
       recordItem placeBytes (kitOf (unitsIn r) t) ≡ ownRecord N i
   own-record i r t e f g =
       let b : unitsIn r ≡ nodeRow N i = rw g (row-back (nodeRow N i)) in
@@ -169,7 +169,7 @@ module _ (N : List ℕ) (S : Shape mostPlace N) (i : ℕ) (u : Live N i) where
       lay-last places (nodeRow N (parent N i)) (label N i) (at - 1) n (omega (arith, node-deep, node-short)) ∙ rw (← s) refl
 
   -- its own record, of the row that was read
-  pub own-length : (r : Row) (t : ℕ) → t ≡ tag N i → (t ≡ 0 → ⊥) → r ≡ rowOf (nodeRow N i) →
+  pub own-length : (r : Row) (t : ℕ) → t ≡ tag N i → (t ≡ 0 → ⊥) → r ≡ fixedRow (nodeRow N i) →
       (length (ownRecord N i) ≡ 3 + length (listOf (unitsIn r)) / 2 * 2) × (length (listOf (unitsIn r)) / 2 ≤ 64)
   own-length r t e f g =
       let b : unitsIn r ≡ nodeRow N i = rw g (row-back (nodeRow N i)) in

@@ -18,7 +18,7 @@ use Rattle.nodes.specs.Held.{Kit, putKit, inOrder, kitAt, held}
 use Rattle.nodes.proofs.Held.{held-is-walk}
 use Rattle.sheet.specs.Bytes.{two}
 use Rattle.sheet.specs.Sheet.{Contents, contentsOf, mark, version, placeBytes, numberItems, recordItem, recordItems, encode}
-use Rattle.sheet.specs.Calls.{writing}
+use Rattle.sheet.specs.Calls.{writingOf}
 use Rattle.sheet.proofs.Numbers.{two-length}
 use Rattle.writing.specs.Inner.{SetDown, headItems, numbersFrom, kitsAt, recordsAt}
 
@@ -109,10 +109,10 @@ module _ (R N : List ℕ) (ready : Ready R) (n m : ℕ) (parts : n ≡ length (p
 
 -- what the writer promises
 module _ (c : Contents) (o : List ℕ) (n : ℕ) (need : n ≡ length (encode c)) where
-  pub writing-12 : length o < n → Promise (writing c o) o (refused 12 n) o
-  unfolding writing
+  pub writing-12 : length o < n → Promise (writingOf c o) o (refused 12 n) o
+  unfolding writingOf
   writing-12 h = rw need (set-down-full (encode c) o (omega (arith, need)))
 
-  pub writing-done : (m : List ℕ) (r : ℕ) → n ≤ length o → SetDown o m (encode c) r → Promise (writing c o) o (done r) m
-  unfolding writing
+  pub writing-done : (m : List ℕ) (r : ℕ) → n ≤ length o → SetDown o m (encode c) r → Promise (writingOf c o) o (done r) m
+  unfolding writingOf
   writing-done m r h d = rw (d .ends, d .is) (set-down-done (encode c) o (omega (arith, need)))

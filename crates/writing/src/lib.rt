@@ -7,7 +7,7 @@ ghost use lib.ListN.{length, getD, take};
 ghost use Rattle.ground.specs.Calls.{Promise};
 ghost use Rattle.answers.specs.Answers.{reply};
 ghost use Rattle.kits.specs.Kits.{mostUnits, mostPlace, listOf};
-ghost use Rattle.kits.specs.Inner.{unitsIn, rowOf};
+ghost use Rattle.kits.specs.Inner.{unitsIn, fixedRow};
 ghost use Rattle.ground.specs.Limits.{mostParts};
 ghost use Rattle.register.specs.Register.{slotBytes, slotCount, numberAt, partsOf};
 ghost use Rattle.register.specs.Number.{longestNumber};
@@ -16,7 +16,7 @@ ghost use Rattle.nodes.specs.Nodes.{size, nodesOf, mostNodes};
 ghost use Rattle.nodes.specs.Inner.{walkAll, Live, Shape, Sound};
 ghost use Rattle.sheet.specs.Bytes.{two, inBytes};
 ghost use Rattle.sheet.specs.Sheet.{placeBytes, mark, version, numberItem, lineItems, recordItem, contentsOf, encode};
-ghost use Rattle.sheet.specs.Calls.{writing};
+ghost use Rattle.sheet.specs.Calls.{writingOf};
 ghost use Rattle.writing.specs.Inner.{SetDown, kitOf, nodeRow, headItems, numbersFrom, Counted, kitsAt, recordsAt, ownRecord, recordsFrom};
 use answers::Answer;
 use ground::copy_in;
@@ -105,7 +105,7 @@ fn put_kit(out: &mut [u8], tag: u16, row: Row) -> usize
 // The row of a node, read up the parent links.
 fn row_at(nodes: &[u16], i: usize) -> Row
     requires { ⌜ Shape mostPlace (now nodes) ⌝ ∗ ⌜ Live (now nodes) i ⌝ }
-    ensures { λ r. ⌜ r ≡ rowOf (nodeRow (now (nodes .entry)) i) ⌝ ∗ ⌜ length (nodeRow (now (nodes .entry)) i) ≤ mostUnits ⌝ }
+    ensures { λ r. ⌜ r ≡ fixedRow (nodeRow (now (nodes .entry)) i) ⌝ ∗ ⌜ length (nodeRow (now (nodes .entry)) i) ≤ mostUnits ⌝ }
 {
     let mut row = Row {
         places: [0; 64],
@@ -254,7 +254,7 @@ fn put_items(out: &mut [u8], reg: &[u8], nodes: &[u16], sheet: Sheet) -> usize
 // Writes the sheet of a sound register and node table: bytes written, or the bytes needed in all where the output has no room.
 pub fn write_sheet(reg: &[u8], nodes: &[u16], out: &mut [u8]) -> Answer
     requires { ⌜ Ready (now reg) ⌝ ∗ ⌜ Sound mostPlace (now nodes) ⌝ }
-    ensures { λ r. ⌜ Promise (writing (contentsOf (now (reg .entry)) (now (nodes .entry))) (now (out .entry))) (now (out .entry)) (reply r) (now (out .exit)) ⌝ }
+    ensures { λ r. ⌜ Promise (writingOf (contentsOf (now (reg .entry)) (now (nodes .entry))) (now (out .entry))) (now (out .entry)) (reply r) (now (out .exit)) ⌝ }
 {
     let parts = count_parts(reg);
     let need = Sheet::HEAD + numbers_size(reg, parts) + 2 + records_size(nodes);

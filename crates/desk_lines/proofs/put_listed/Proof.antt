@@ -1,6 +1,6 @@
 -- A number other than 0 is a refusal, with nothing behind; done, the value says how many places are the tags.
 use Rattle.desk_lines.proofs.Answering.{printed-refused, printed-done, done-length, done-inside}
-use Rattle.desk_replies.specs.Replies.{tagsOf}
+use Rattle.desk_replies.specs.Replies.{tagsText}
 use native.Mathlib.Omega.{arith}
 use mathlib.Core.Path.{sym}
 use borrow.Author.Needs.{needs}
@@ -28,7 +28,7 @@ returns c =
     let start : tie.Start = search in
     let a = start .args in
     let m = at-reply-of .reply-of .ensures in
-    printed-refused (a .a) (a .places .now) (a .letter) tagsOf
+    printed-refused (a .a) (a .places .now) (a .letter) tagsText
     (at-reply-of .reply-of .result .number) (m .number)
     (then1 .if1 .taken) (c .before .before .put-answer .ensures)
 
@@ -65,7 +65,7 @@ returns-2 c =
     let a = start .args in
     let m = at-reply-of .reply-of .ensures in
     printed-done (a .a) (a .places .now) _ _ (m .number) (else1 .if1 .left) (m .value)
-    (start .pre .1) (a .letter) tagsOf
+    (start .pre .1) (a .letter) tagsText
     (c .before .before .put-listing .ensures)
 
 pub put-listed-spec : {M : Type 1} → statement M

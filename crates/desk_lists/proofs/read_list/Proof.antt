@@ -7,7 +7,7 @@ use lib.ListN.{length}
 use Rattle.ground.specs.Calls.{Reply, done, numberOf, valueOf, leaves}
 use Rattle.ground.proofs.Calls.{passed-done, refused-says, refused-leaves}
 use Rattle.answers.specs.Answers.{reply}
-use Rattle.desk_lists.specs.Inner.{said}
+use Rattle.desk_lists.specs.Inner.{typedAs}
 use Rattle.desk_text.proofs.Amounts.{amount-value}
 use Rattle.desk_lists.proofs.Typing.{Reading, reading-start, reading-inside, reading-end, reading-stopped, reading-on, pair-room, quantity-follows, amount-follows}
 use Rattle.desk_lists.proofs.read_list.Statement.{statement}
@@ -61,7 +61,7 @@ returns c =
     let e = sym (at-refused .refused .ensures) ∙ then1 .if1 .taken in
     let q = refused-says a e in
     record {
-      says = ap (λ (z : Reply). said z (at-loop .loop .list)) q
+      says = ap (λ (z : Reply). typedAs z (at-loop .loop .list)) q
           ∙ reading-stopped (at-loop .loop .inv) (at-end-of .end-of .result) (in-loop .loop-test .taken) (at-end-of .end-of .ensures)
           (numberOf a) (valueOf a) (sym (at-look-up-in .look-up-in .ensures .0) ∙ q);
       inside = rw (refused-leaves a 0 (valueOf a) e) (omega arith);

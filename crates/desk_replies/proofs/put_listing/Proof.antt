@@ -3,7 +3,7 @@ use mathlib.Core.Path.{refl}
 use mathlib.Core.List.{[], _∷_}
 use native.Mathlib.Omega.{arith}
 use lib.ListN.{length}
-use Rattle.desk_replies.specs.Replies.{tagsOf}
+use Rattle.desk_replies.specs.Replies.{tagsText}
 use Rattle.desk_text.specs.Lines.{lineFeed}
 use Rattle.desk_replies.proofs.Replies.{listing-room, head-fits, behind-head, rest-room, rest-put, rest-byte-room, rest-last}
 use borrow.Author.Needs.{needs}
@@ -15,7 +15,7 @@ put-head-requires c κs =
     let start : tie.Start = search in
     let a = start .args in
     let ts = a .tags .now in
-    head-fits (a .letter) 0 (length ts) (tagsOf ts) (a .out .now)
+    head-fits (a .letter) 0 (length ts) (tagsText ts) (a .out .now)
     (listing-room (a .letter) (a .out .now) ts (λ i. omega (arith, c .before .shared-slice-known .given i)) (omega arith)
     (start .pre))
 
@@ -28,7 +28,7 @@ put-tags-requires c κs =
     let ts = a .tags .now in
     let h = listing-room (a .letter) (a .out .now) ts (λ i. omega (arith, at-shared-slice-known .shared-slice-known .given i))
     (omega arith) (start .pre) in
-    rest-room (tagsOf ts) (lineFeed ∷ []) (behind-head (a .letter) 0 (length ts) (tagsOf ts) h (at-put-head .put-head .ensures))
+    rest-room (tagsText ts) (lineFeed ∷ []) (behind-head (a .letter) 0 (length ts) (tagsText ts) h (at-put-head .put-head .ensures))
     refl
 
 put-byte-requires : tie.Need-put-byte-requires
@@ -42,7 +42,7 @@ put-byte-requires c κs =
     let h = listing-room (a .letter) (a .out .now) ts (λ i. omega (arith, at-shared-slice-known .shared-slice-known .given i))
     (omega arith) (start .pre) in
     rest-byte-room (rest-put {more = lineFeed ∷ []}
-    (behind-head (a .letter) 0 (length ts) (tagsOf ts) h (at-put-head .put-head .ensures)) refl (at-put-tags .put-tags .ensures))
+    (behind-head (a .letter) 0 (length ts) (tagsText ts) h (at-put-head .put-head .ensures)) refl (at-put-tags .put-tags .ensures))
     refl
 
 same-length : tie.Need-same-length
@@ -59,7 +59,7 @@ returns c =
     let h = listing-room (a .letter) (a .out .now) ts (λ i. omega (arith, at-shared-slice-known .shared-slice-known .given i))
     (omega arith) (start .pre) in
     rest-last (rest-put {more = lineFeed ∷ []}
-    (behind-head (a .letter) 0 (length ts) (tagsOf ts) h (at-put-head .put-head .ensures)) refl (at-put-tags .put-tags .ensures))
+    (behind-head (a .letter) 0 (length ts) (tagsText ts) h (at-put-head .put-head .ensures)) refl (at-put-tags .put-tags .ensures))
     refl (c .before .before .put-byte .ensures)
 
 pub put-listing-spec : {M : Type 1} → statement M

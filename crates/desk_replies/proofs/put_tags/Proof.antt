@@ -5,13 +5,13 @@ use Prim.Native.Nat.{ℕ, _+_, _-_, _≤_}
 use native.Mathlib.Omega.{arith}
 use borrow.Author.Needs.{needs}
 use lib.ListN.{length, drop}
-use Rattle.desk_replies.specs.Replies.{tagsOf, decimal}
+use Rattle.desk_replies.specs.Replies.{tagsText, decimal}
 use Rattle.desk_replies.proofs.Replies.{Rest, rest-start, rest-put, rest-room, rest-byte, rest-byte-room, rest-end, tags-step, tags-end}
 use Rattle.desk_replies.proofs.put_tags.Statement.{statement}
 use Rattle.desk_replies.proofs.put_tags.Tie as tie
 
 abbrev Inv-loop : tie.InvT-loop
-Inv-loop out₀ from tags at₀ i₀ out at i = (i ≤ length tags) × Rest out₀ from (tagsOf tags) out at (tagsOf (drop i tags))
+Inv-loop out₀ from tags at₀ i₀ out at i = (i ≤ length tags) × Rest out₀ from (tagsText tags) out at (tagsText (drop i tags))
 
 abbrev μ-loop : tie.MeasureT-loop
 μ-loop out₀ from tags at₀ i₀ out at i = length tags - i
@@ -44,7 +44,7 @@ put-decimal-requires c κs =
     let start : tie.Start Inv-loop μ-loop = search in
     let ts = start .args .tags .now in
     let i = at-loop .loop .i in
-    let more = tagsOf (drop (i + 1) ts) in
+    let more = tagsText (drop (i + 1) ts) in
     rest-room (decimal (c .wide16 .result)) more
     (rest-byte (at-loop .loop .inv .1) (tags-step ts i (in-loop .loop-test .taken)) refl (at-put-byte .put-byte .ensures))
     (ap (λ (n : ℕ). decimal n ++ more) (sym (c .wide16 .ensures .0)))
@@ -64,7 +64,7 @@ loop-again c =
     let start : tie.Start Inv-loop μ-loop = search in
     let ts = start .args .tags .now in
     let i = at-loop .loop .i in
-    let more = tagsOf (drop (i + 1) ts) in (
+    let more = tagsText (drop (i + 1) ts) in (
       omega arith,
       rest-put
           (rest-byte (at-loop .loop .inv .1) (tags-step ts i (in-loop .loop-test .taken)) refl (at-put-byte .put-byte .ensures))
