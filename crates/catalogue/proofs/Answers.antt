@@ -23,15 +23,16 @@ use Rattle.nodes.specs.Inner.{Sound}
 use Rattle.nodes.specs.Held.{Kit, held, tagIn}
 use Rattle.nodes.proofs.Held.{held-good}
 use Rattle.nodes.proofs.Listing.{tag-none}
-use Rattle.growing.specs.Enter.{enter, lacks}
+use Rattle.index_insert.specs.Enter.{enter, lacks}
 use Rattle.index.specs.Index.{entryRefusals, missingRefusals}
 use Rattle.index.specs.Inner.{insertingRow, findingRow, deletingRow}
 use Rattle.questions.specs.Questions.{anyOf, allOf}
 use Rattle.shortfalls.specs.Shortfalls.{mostShort, almostTags, almostShorts, listAlmost}
 use Rattle.sheet.specs.Sheet.{encode}
 use Rattle.sheet.specs.Calls as sheet
-use Rattle.filling.specs.Inner as filling
-use Rattle.lent.specs.Lent.{Tables, tables, partCount, lengths, lentBoth, lentList}
+use Rattle.sheet_read.specs.Inner as filling
+use Rattle.ground.specs.Tables.{Tables, tables}
+use Rattle.tables.specs.Lent.{partCount, lengths, lentBoth, lentList}
 use Rattle.catalogue.specs.Calls.{contents, emptying, inserting, finding, deleting, anyKit, allKits, almostKits, writing, reading}
 
 -- the row of a list that has room, as it is lent on by value

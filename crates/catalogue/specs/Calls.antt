@@ -14,18 +14,19 @@ use Rattle.register.specs.Calls.{registering, lookingUp, showing}
 use Rattle.kits.specs.Kits.{mostUnits, units, listFaults}
 use Rattle.nodes.specs.Nodes.{size}
 use Rattle.nodes.specs.Held.{Kit, held, tagIn}
-use Rattle.growing.specs.Enter.{enter, lacks}
-use Rattle.pruning.specs.Strike.{strike}
+use Rattle.index_insert.specs.Enter.{enter, lacks}
+use Rattle.index_delete.specs.Strike.{strike}
 use Rattle.index.specs.Index.{entryRefusals, missingRefusals}
 use Rattle.questions.specs.Questions.{isWithin, isContaining, anyOf, allOf}
 use Rattle.shortfalls.specs.Shortfalls.{mostShort, listAlmost}
 use Rattle.sheet.specs.Sheet.{Contents, contentsOf, encode}
 use Rattle.sheet.specs.Reading.{decode, said}
 use Rattle.sheet.specs.Calls.{sheetRefusals}
-use Rattle.filling.specs.Filling.{filling}
+use Rattle.sheet_read.specs.Filling.{filling}
 use Rattle.answers.specs.declared.Answer.{Answer}
 use Rattle.answers.specs.Answers.{reply}
-use Rattle.lent.specs.Lent.{Tables, tables, partCount, lengths, lentBoth, lentList}
+use Rattle.ground.specs.Tables.{Tables, tables}
+use Rattle.tables.specs.Lent.{partCount, lengths, lentBoth, lentList}
 
 -- what the catalogue has
 abbrev pub contents : Tables → Contents

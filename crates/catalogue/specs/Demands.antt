@@ -19,7 +19,8 @@ use Rattle.shortfalls.specs.Shortfalls.{mostShort, shortfall, isAlmost, shortsO
 use Rattle.sheet.specs.Bytes.{Bytes, twoLimit}
 use Rattle.sheet.specs.Sheet.{Contents, encode}
 use Rattle.sheet.specs.Reading.{decode, said}
-use Rattle.lent.specs.Lent.{Tables, tables, lentList}
+use Rattle.ground.specs.Tables.{Tables, tables}
+use Rattle.tables.specs.Lent.{lentList}
 use Rattle.catalogue.specs.Calls.{contents, Call, emptyBoth, registerPart, lookUp, showAt, insertKit, findKit, deleteKit, anyWithin}
 use Rattle.catalogue.specs.Calls.{anyContaining, allWithin, allContaining, allAlmost, writeSheet, readSheet, planOf, inserting}
 use Rattle.catalogue.specs.Calls.{anyKit, allKits, almostKits, writing, reading}

@@ -3,17 +3,17 @@
 ghost use mathlib.Core.Path.{_≡_};
 ghost use Rattle.ground.specs.Calls.{answer, SetsBoth};
 ghost use Rattle.questions.specs.Questions.{isWithin, isContaining};
-ghost use Rattle.lent.specs.Lent.{tables};
+ghost use Rattle.ground.specs.Tables.{tables};
 ghost use Rattle.answers.specs.Answers.{reply};
 ghost use Rattle.catalogue.specs.Calls.{emptying, inserting, finding, deleting, anyKit, allKits, almostKits, writing, reading, Leaves, Sets};
 use answers::Answer;
 use answers::refused;
 use ground::wide16;
-use lent::check_lengths;
-use lent::check_lent;
-use lent::check_lines;
-use lent::check_tables;
 use shortfalls::MOST_SHORT;
+use tables::check_lengths;
+use tables::check_lent;
+use tables::check_lines;
+use tables::check_tables;
 
 // Empties both tables.
 pub fn empty(reg: &mut [u8], nodes: &mut [u16]) -> Answer
@@ -152,7 +152,7 @@ pub fn write_sheet(reg: &[u8], nodes: &[u16], out: &mut [u8]) -> Answer
     if refused(lent) {
         return lent;
     }
-    writing::write_sheet(reg, nodes, out)
+    sheet_write::write_sheet(reg, nodes, out)
 }
 
 // Reads a sheet into both tables: the kits read.
@@ -163,5 +163,5 @@ pub fn read_sheet(reg: &mut [u8], nodes: &mut [u16], s: &[u8]) -> Answer
     if refused(sized) {
         return sized;
     }
-    filling::read_sheet(reg, nodes, s)
+    sheet_read::read_sheet(reg, nodes, s)
 }

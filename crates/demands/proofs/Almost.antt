@@ -20,8 +20,9 @@ use Rattle.questions.specs.Questions.{allOf}
 use Rattle.shortfalls.specs.Shortfalls.{mostShort, shortfall, shortOf, isAlmost, shortsOf}
 use Rattle.shortfalls.proofs.Meaning as almost
 use Rattle.sheet.specs.Sheet.{Contents}
-use Rattle.lent.specs.Lent.{Tables, lentBoth, lentList}
-use Rattle.lent.proofs.Lent.{few-parts}
+use Rattle.ground.specs.Tables.{Tables}
+use Rattle.tables.specs.Lent.{lentBoth, lentList}
+use Rattle.tables.proofs.Lent.{few-parts}
 use Rattle.catalogue.specs.Calls.{almostKits}
 use Rattle.catalogue.specs.Demands.{entered, answering, AnsweringAlmost, ShownInStep, ZeroIsWithin, NothingLeaves, MostIsAll, almostOf, AlmostAnswers, AlmostShows}
 use Rattle.demands.proofs.Brought.{Brought, brought}

@@ -19,8 +19,9 @@ use Rattle.nodes.proofs.Decided.{sound-test}
 use Rattle.nodes.proofs.Held.{held-tagged}
 use Rattle.questions.specs.Questions.{isWithin, isContaining, fitting, anyOf, allOf}
 use Rattle.sheet.specs.Sheet.{Contents}
-use Rattle.lent.specs.Lent.{Tables, partCount, lentBoth, lentList}
-use Rattle.lent.proofs.Lent.{both-good}
+use Rattle.ground.specs.Tables.{Tables}
+use Rattle.tables.specs.Lent.{partCount, lentBoth, lentList}
+use Rattle.tables.proofs.Lent.{both-good}
 use Rattle.catalogue.specs.Calls.{contents, anyKit, allKits}
 use Rattle.catalogue.specs.Demands.{Question, entered, HasWhatWasEntered, listedIn, answering, AnsweringFits, AnsweringContains}
 use Rattle.catalogue.specs.Demands.{AnsweringInOrder, AnyAnswers, NoneAnswers, AllAnswers, listingOf}

@@ -32,20 +32,21 @@ use Rattle.nodes.proofs.Fields.{length-sized, sized-length}
 use Rattle.nodes.proofs.Held.{kit, held-rows-differ, held-tagged}
 use Rattle.nodes.proofs.Beginnings.{widen}
 use Rattle.nodes.proofs.Empty.{zeros-sound, zeros-hold-nothing}
-use Rattle.growing.specs.Enter.{enter, lacks}
-use Rattle.pruning.specs.Strike.{strike}
+use Rattle.index_insert.specs.Enter.{enter, lacks}
+use Rattle.index_delete.specs.Strike.{strike}
 use Rattle.index.specs.Inner.{insertingRow, deletingRow}
 use Rattle.index.proofs.Kept.{Accepted, accepted, deleting-tag, insert-growth, insert-sound, insert-length, held-after-insert, delete-sound, delete-length, held-after-delete}
 use Rattle.sheet.specs.Bytes.{Bytes, twoLimit}
 use Rattle.sheet.specs.Sheet.{Contents, encode}
 use Rattle.sheet.specs.Inner.{goodKit, fitsSheet}
 use Rattle.sheet.specs.Reading.{decode, said}
-use Rattle.filling.specs.Filling.{filling}
-use Rattle.filling.specs.Inner as read
-use Rattle.filling.proofs.Reading as filled
-use Rattle.filling.proofs.Listed.{Fits, fitting-fits, rising-earlier}
-use Rattle.lent.specs.Lent.{Tables, tables, partCount, lengths, lentBoth, lentList}
-use Rattle.lent.proofs.Lent.{list-passed}
+use Rattle.sheet_read.specs.Filling.{filling}
+use Rattle.sheet_read.specs.Inner as read
+use Rattle.sheet_read.proofs.Reading as filled
+use Rattle.sheet_read.proofs.Listed.{Fits, fitting-fits, rising-earlier}
+use Rattle.ground.specs.Tables.{Tables, tables}
+use Rattle.tables.specs.Lent.{partCount, lengths, lentBoth, lentList}
+use Rattle.tables.proofs.Lent.{list-passed}
 use Rattle.catalogue.specs.Calls.{Call, emptyBoth, registerPart, lookUp, showAt, insertKit, findKit, deleteKit, anyWithin, anyContaining}
 use Rattle.catalogue.specs.Calls.{allWithin, allContaining, allAlmost, writeSheet, readSheet, planOf, emptying, inserting, finding}
 use Rattle.catalogue.specs.Calls.{deleting, anyKit, reading}

@@ -8,7 +8,7 @@ use Rattle.nodes.specs.Held.{Kit, inOrder, allBeginnings}
 use Rattle.nodes.proofs.Listing.{order-mem, mem-order}
 use Rattle.nodes.proofs.Held.{kit}
 use Rattle.nodes.proofs.Beginnings.{nodes-used}
-use Rattle.beginnings.proofs.Filled.{more-beginnings}
+use Rattle.index_counts.proofs.Filled.{more-beginnings}
 use Rattle.kits.specs.Kits.{units}
 use Rattle.catalogue.specs.Demands.{tablesOf, entered, NodesCounted, NodesTaken}
 use Rattle.demands.proofs.Brought.{brought, insertion, now-held, now-begun}

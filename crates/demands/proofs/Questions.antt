@@ -24,8 +24,9 @@ use Rattle.nodes.proofs.Listing.{Earlier}
 use Rattle.nodes.proofs.Decided.{sound-exactly}
 use Rattle.questions.specs.Questions.{isWithin, isContaining, fitting, anyOf, allOf}
 use Rattle.questions.proofs.Meaning.{fitting-exactly, fitting-sorted, none-exactly}
-use Rattle.lent.specs.Lent.{Tables, partCount, lentList}
-use Rattle.lent.proofs.Lent.{lent-passed}
+use Rattle.ground.specs.Tables.{Tables}
+use Rattle.tables.specs.Lent.{partCount, lentList}
+use Rattle.tables.proofs.Lent.{lent-passed}
 use Rattle.catalogue.specs.Calls.{planOf, anyKit, allKits}
 use Rattle.catalogue.specs.Demands as demand
 use Rattle.catalogue.specs.Demands.{Question, FitsExactly, ContainsExactly, TurnedRound, Asked, AnySays, NoneFits, NoneContains, InOrder, ListedInOrder, ListingShows, OneOnlyIf}

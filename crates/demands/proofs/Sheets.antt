@@ -22,8 +22,9 @@ use Rattle.sheet.specs.Sheet.{Contents, encode}
 use Rattle.sheet.specs.Inner.{fitsSheet}
 use Rattle.sheet.specs.Reading.{decode, said}
 use Rattle.sheet.proofs.Laws.{encode-injective}
-use Rattle.filling.proofs.RoundTrip.{SmallTags, catalogue-fits}
-use Rattle.lent.specs.Lent.{Tables, lentBoth}
+use Rattle.sheet_read.proofs.RoundTrip.{SmallTags, catalogue-fits}
+use Rattle.ground.specs.Tables.{Tables}
+use Rattle.tables.specs.Lent.{lentBoth}
 use Rattle.catalogue.specs.Calls.{writing, reading}
 use Rattle.catalogue.specs.Demands.{listedIn, Writes, Agree, SheetsTell, SheetIsWritten, SameAgain, NoOther, NoSecond}
 use Rattle.demands.proofs.Model.{HasTag, tag-order, tags-determine}

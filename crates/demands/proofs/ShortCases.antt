@@ -12,15 +12,15 @@ use Rattle.kits.specs.Kits.{lineValue, lineFaults, linesFaults, listFaults, uni
 use Rattle.nodes.specs.Nodes.{nodesLength, nodesOf, othersOf, zeroWord, isFree, isUsed, freeNodes, usedNodes, tagged, path, rowOf, chain, children}
 use Rattle.nodes.specs.Sound.{rootGood, parentGood, depthGood, labelGood, fewEqual, linksInside, childGood, nextGood, onChain, endTagged, tagsDiffer, usedOthers, nodesSound}
 use Rattle.nodes.specs.Held.{putKit, inOrder, tagIn, tagsOf, firstTag, kitAt, held}
-use Rattle.linking.specs.Links.{hasLabel, childWith, lastBelow, linkTo, link, unlink}
-use Rattle.growing.specs.Enter.{lowestFree, enter, lacks, nodeOf}
-use Rattle.pruning.specs.Strike.{prune, strikeAt, strike}
+use Rattle.index_links.specs.Links.{hasLabel, childWith, lastBelow, linkTo, link, unlink}
+use Rattle.index_insert.specs.Enter.{lowestFree, enter, lacks, nodeOf}
+use Rattle.index_delete.specs.Strike.{prune, strikeAt, strike}
 use Rattle.index.specs.Index.{entryRefusals, missingRefusals}
 use Rattle.questions.specs.Questions.{isWithin, isContaining, fitting, anyOf, allOf}
 use Rattle.shortfalls.specs.Shortfalls.{sumOver, lacking, shortfall, shortOf, isAlmost, shortsOf}
 use Rattle.sheet.specs.Bytes.{inBytes}
 use Rattle.sheet.specs.Sheet.{numberItem, numberItems, lineItems, recordItem, recordItems, encode}
-use Rattle.lent.specs.Lent.{lengths, lentBoth, lentList}
+use Rattle.tables.specs.Lent.{lengths, lentBoth, lentList}
 use Rattle.catalogue.specs.Calls.{planOf, inserting, deleting, anyKit, allKits, almostKits, writing}
 use Rattle.catalogue.specs.Demands.{run, log, begun, tablesOf}
 use Rattle.demands.specs.ShortCases.{insertRows, holding, listedBy, askedAlmost, struck, ShortCases, AlmostCases, entries, later, desk, replies, DeskExample}

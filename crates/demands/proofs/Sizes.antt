@@ -15,7 +15,8 @@ use Rattle.nodes.specs.Nodes.{wordsPerNode, size}
 use Rattle.nodes.proofs.Sorted.{Every, also}
 use Rattle.index.proofs.Kept.{insert-length, delete-length}
 use Rattle.sheet.specs.Sheet.{Contents}
-use Rattle.lent.specs.Lent.{Tables, tables, partCount}
+use Rattle.ground.specs.Tables.{Tables, tables}
+use Rattle.tables.specs.Lent.{partCount}
 use Rattle.catalogue.specs.Calls.{Call, emptyBoth, registerPart, lookUp, showAt, insertKit, findKit, deleteKit, anyWithin, anyContaining}
 use Rattle.catalogue.specs.Calls.{allWithin, allContaining, allAlmost, writeSheet, readSheet, planOf, emptying, inserting, finding}
 use Rattle.catalogue.specs.Calls.{deleting, anyKit}

@@ -19,13 +19,14 @@ use Rattle.nodes.proofs.Sorted.{anyb-eqb, eqb-anyb}
 use Rattle.nodes.proofs.Listing.{order-mem, mem-order, tags-mem, mem-tags}
 use Rattle.nodes.proofs.Held.{kit}
 use Rattle.nodes.proofs.Beginnings.{nodes-free}
-use Rattle.growing.specs.Enter.{lacks}
+use Rattle.index_insert.specs.Enter.{lacks}
 use Rattle.index.specs.Index.{entryRefusals, missingRefusals}
-use Rattle.beginnings.proofs.Needed.{nodes-needed}
+use Rattle.index_counts.proofs.Needed.{nodes-needed}
 use Rattle.questions.specs.Questions.{isWithin, isContaining}
 use Rattle.sheet.specs.Sheet.{Contents, nodesNeeded}
-use Rattle.lent.specs.Lent.{Tables, lengths, lentList}
-use Rattle.lent.proofs.Lent.{lengths-good}
+use Rattle.ground.specs.Tables.{Tables}
+use Rattle.tables.specs.Lent.{lengths, lentList}
+use Rattle.tables.proofs.Lent.{lengths-good}
 use Rattle.catalogue.specs.Calls.{Call, emptyBoth, registerPart, lookUp, showAt, insertKit, findKit, deleteKit, anyWithin, anyContaining}
 use Rattle.catalogue.specs.Calls.{allWithin, allContaining, allAlmost, writeSheet, readSheet, planOf, emptying, inserting, finding}
 use Rattle.catalogue.specs.Calls.{deleting, reading}

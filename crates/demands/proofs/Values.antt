@@ -25,8 +25,8 @@ use Rattle.nodes.proofs.Lists.{zero-or}
 use Rattle.nodes.proofs.Sorted.{Every, none, also, every-append, keep-short, allb-mem}
 use Rattle.nodes.proofs.Decided.{sound-exactly}
 use Rattle.nodes.proofs.Listing.{tags-long, tag-from}
-use Rattle.growing.specs.Enter.{lacks}
-use Rattle.growing.proofs.Entered.{lacks-most}
+use Rattle.index_insert.specs.Enter.{lacks}
+use Rattle.index_insert.proofs.Entered.{lacks-most}
 use Rattle.index.specs.Index.{entryRefusals, missingRefusals}
 use Rattle.questions.specs.Questions.{isWithin, isContaining, fitting, anyOf, allOf}
 use Rattle.questions.proofs.Meaning.{fitting-exactly}
@@ -36,12 +36,13 @@ use Rattle.sheet.specs.Sheet.{Contents, contentsOf, placeBytes, numberItem, num
 use Rattle.sheet.specs.Inner.{goodKit}
 use Rattle.sheet.specs.Reading.{decode, said}
 use Rattle.sheet.specs.Calls.{sheetRefusals, roomRefusals}
-use Rattle.writing.proofs.Records.{number-size, record-size, lines-few}
-use Rattle.filling.proofs.Listed.{Fits, fitting-fits, kit-fits}
-use Rattle.filling.proofs.Reading.{said-again}
-use Rattle.filling.proofs.RoundTrip.{SmallTags, words-small, catalogue-fits}
-use Rattle.lent.proofs.Lent.{Lent, both-passed, lent-passed, few-parts}
-use Rattle.lent.specs.Lent.{Tables, tables, partCount, lengths, lentBoth, lentList}
+use Rattle.sheet_write.proofs.Records.{number-size, record-size, lines-few}
+use Rattle.sheet_read.proofs.Listed.{Fits, fitting-fits, kit-fits}
+use Rattle.sheet_read.proofs.Reading.{said-again}
+use Rattle.sheet_read.proofs.RoundTrip.{SmallTags, words-small, catalogue-fits}
+use Rattle.tables.proofs.Lent.{Lent, both-passed, lent-passed, few-parts}
+use Rattle.ground.specs.Tables.{Tables, tables}
+use Rattle.tables.specs.Lent.{partCount, lengths, lentBoth, lentList}
 use Rattle.catalogue.specs.Calls.{emptyBoth, registerPart, lookUp, showAt, insertKit, findKit, deleteKit, anyWithin, anyContaining}
 use Rattle.catalogue.specs.Calls.{allWithin, allContaining, allAlmost, writeSheet, readSheet, planOf, emptying, inserting, finding}
 use Rattle.catalogue.specs.Calls.{deleting, anyKit, allKits, almostKits, writing, reading}

@@ -8,7 +8,7 @@ use Rattle.ground.specs.Calls.{Reply, done, refused, answer, memory, Both, both
 use Rattle.kits.specs.Kits.{listOf}
 use Rattle.nodes.specs.Nodes.{usedNodes}
 use Rattle.questions.specs.Questions.{isWithin, isContaining}
-use Rattle.lent.specs.Lent.{Tables}
+use Rattle.ground.specs.Tables.{Tables}
 use Rattle.catalogue.specs.Calls.{Call, registerPart, insertKit, deleteKit, anyWithin, anyContaining, allKits, almostKits, deleting, writing}
 use Rattle.catalogue.specs.Demands.{Question, log, tablesOf}
 

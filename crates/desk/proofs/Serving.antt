@@ -9,7 +9,7 @@ use lib.Seq.{take-all, length-take-le, drop-drop, take-append-add}
 use Rattle.ground.specs.Laid.{laid}
 use Rattle.ground.proofs.Laws.{below-or}
 use Rattle.ground.proofs.Laid.{take-laid, length-laid}
-use Rattle.lent.specs.Lent.{Tables, tables}
+use Rattle.ground.specs.Tables.{Tables, tables}
 use Rattle.desk_text.specs.Parted.{parted}
 use Rattle.desk_text.specs.Inner.{upTo, EndOf}
 use Rattle.desk_text.specs.Lines.{lineFeed, longestLine}

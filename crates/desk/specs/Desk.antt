@@ -2,7 +2,7 @@
 use mathlib.Core.Path.{_≡_}
 use mathlib.Core.List.{List}
 use Prim.Native.Nat.{ℕ}
-use Rattle.lent.specs.Lent.{Tables}
+use Rattle.ground.specs.Tables.{Tables}
 use Rattle.desk_input.specs.Lines.{linesOf, answered}
 use Rattle.desk_lines.specs.Desk.{leftBy}
 

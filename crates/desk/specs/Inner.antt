@@ -5,7 +5,7 @@ use mathlib.Core.List.{List, _++_}
 use Prim.Native.Nat.{ℕ, _≤_}
 use lib.ListN.{length, take}
 use Rattle.register.specs.Inner.{Ready}
-use Rattle.lent.specs.Lent.{Tables}
+use Rattle.ground.specs.Tables.{Tables}
 use Rattle.desk_text.specs.Inner.{upTo}
 use Rattle.desk_text.specs.Lines.{lineFeed}
 use Rattle.desk_input.specs.Inner.{mostKept, keptOf}

@@ -5,7 +5,7 @@ ghost use lib.ListN.{length, take};
 ghost use Rattle.register.specs.Register.{slotBytes};
 ghost use Rattle.register.specs.Inner.{Ready};
 ghost use Rattle.nodes.specs.Nodes.{wordsPerNode};
-ghost use Rattle.lent.specs.Lent.{tables};
+ghost use Rattle.ground.specs.Tables.{tables};
 ghost use Rattle.desk_lines.specs.Desk.{leftBy};
 ghost use Rattle.desk_input.specs.Inner.{mostKept};
 ghost use Rattle.desk.specs.Inner.{slots, nodes, outputPlaces, sheetBytes, replyBytes, AtHand, Keeps, Takes};

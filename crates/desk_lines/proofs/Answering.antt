@@ -18,7 +18,7 @@ use Rattle.register.specs.Inner.{Ready}
 use Rattle.register.specs.Calls.{registering}
 use Rattle.register.proofs.Laws.{sound-after-registering, length-after-registering}
 use Rattle.questions.specs.Questions.{isWithin, isContaining}
-use Rattle.lent.specs.Lent.{Tables, tables}
+use Rattle.ground.specs.Tables.{Tables, tables}
 use Rattle.catalogue.specs.Calls.{onRegister, inserting, finding, deleting, anyKit, allKits, writing}
 use Rattle.answers.specs.Answers.{reply}
 use Rattle.answers.specs.declared.Answer.{Answer}

@@ -7,7 +7,7 @@ use native.Mathlib.Omega.{arith}
 use lib.ListN.{length, getD, drop, length-append, length-drop}
 use lib.Dec.{eqb}
 use Rattle.ground.proofs.Laid.{laid-front}
-use Rattle.lent.specs.Lent.{Tables}
+use Rattle.ground.specs.Tables.{Tables}
 use Rattle.desk_text.specs.Letters as letter
 use Rattle.desk_text.specs.Lines.{longestLine, goodLine}
 use Rattle.desk_text.proofs.Lines.{line-long}

@@ -8,7 +8,7 @@ use borrow.Author.Tests.{eq-eqb, ne-eqb}
 use Rattle.ground.specs.Calls.{Reply, numberOf, valueOf, isRefused, memory}
 use Rattle.ground.proofs.Calls.{passed-done, refused-says}
 use Rattle.questions.specs.Questions.{isWithin, isContaining}
-use Rattle.lent.specs.Lent.{Tables}
+use Rattle.ground.specs.Tables.{Tables}
 use Rattle.catalogue.specs.Calls.{allKits, writing}
 use Rattle.desk_text.specs.Letters as letter
 use Rattle.desk_text.specs.Lines.{goodLine}

@@ -8,7 +8,7 @@ use lib.ListN.{length, getD, take}
 use lib.Dec.{eqb}
 use Rattle.ground.specs.Calls.{Reply, numberOf, valueOf, leaves, memory}
 use Rattle.questions.specs.Questions.{isWithin, isContaining}
-use Rattle.lent.specs.Lent.{Tables}
+use Rattle.ground.specs.Tables.{Tables}
 use Rattle.catalogue.specs.Calls.{allKits, writing}
 use Rattle.desk_text.specs.Lines.{goodLine}
 use Rattle.desk_text.specs.Letters as letter

@@ -6,7 +6,7 @@ ghost use Prim.Native.Nat.{_+_, _*_, _≤_};
 ghost use lib.ListN.{length};
 ghost use Rattle.ground.specs.Calls.{numberOf, valueOf, memory};
 ghost use Rattle.register.specs.Inner.{Ready};
-ghost use Rattle.lent.specs.Lent.{tables};
+ghost use Rattle.ground.specs.Tables.{tables};
 ghost use Rattle.answers.specs.Answers.{reply};
 ghost use Rattle.catalogue.specs.Calls.{writing};
 ghost use Rattle.desk_text.specs.Lines.{goodLine};

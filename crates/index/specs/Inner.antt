@@ -8,8 +8,8 @@ use Rattle.ground.specs.Calls.{Plan, plan, Reply, done, refused}
 use Rattle.nodes.specs.Nodes.{depth, rowOf}
 use Rattle.nodes.specs.Inner.{Live}
 use Rattle.nodes.specs.Held.{held, tagIn}
-use Rattle.growing.specs.Enter.{enter, lacks, nodeOf}
-use Rattle.pruning.specs.Strike.{strike}
+use Rattle.index_insert.specs.Enter.{enter, lacks, nodeOf}
+use Rattle.index_delete.specs.Strike.{strike}
 use Rattle.index.specs.Index.{entryRefusals, missingRefusals}
 
 ------------------------------------------------------------------------

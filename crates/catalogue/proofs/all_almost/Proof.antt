@@ -1,7 +1,7 @@
 -- Refused with what is lent, then with d; otherwise the promise of the walk, behind these refusals.
 use mathlib.Core.Path.{sym, ap, _∙_}
 use Rattle.ground.specs.Calls.{isRefused, both}
-use Rattle.lent.proofs.Lent.{lent-passed, lent-sound, lent-good}
+use Rattle.tables.proofs.Lent.{lent-passed, lent-sound, lent-good}
 use Rattle.catalogue.proofs.Answers.{almost-refused, almost-too-far, almost-done}
 use borrow.Author.Needs.{needs}
 use Rattle.catalogue.proofs.all_almost.Statement.{statement}

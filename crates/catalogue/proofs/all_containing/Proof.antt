@@ -1,5 +1,5 @@
 -- As `all_within`: with the checks passed, the promise of the listing is that of the call.
-use Rattle.lent.proofs.Lent.{lent-passed, lent-sound, lent-good}
+use Rattle.tables.proofs.Lent.{lent-passed, lent-sound, lent-good}
 use Rattle.catalogue.proofs.Answers.{all-refused, all-done}
 use Rattle.questions.specs.Questions.{isContaining}
 use Rattle.ground.specs.Calls.{isRefused}
@@ -9,7 +9,7 @@ use Rattle.catalogue.proofs.all_containing.Statement.{statement}
 use Rattle.catalogue.proofs.all_containing.Tie as tie
 use Rattle.catalogue.proofs.all_containing.Reads as reads
 use Rattle.catalogue.proofs.all_containing.Lts as lts
-use Rattle.lent.proofs.check_lent.Reads as check-lent-reads
+use Rattle.tables.proofs.check_lent.Reads as check-lent-reads
 use Rattle.answers.proofs.refused.Reads as refused-reads
 use Rattle.questions.proofs.all_containing.Reads as all-containing-reads
 

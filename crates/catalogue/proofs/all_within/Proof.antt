@@ -1,5 +1,5 @@
 -- Tables and bin that pass are sound and good; so the listing's promise, put behind refusals that are not given.
-use Rattle.lent.proofs.Lent.{lent-passed, lent-sound, lent-good}
+use Rattle.tables.proofs.Lent.{lent-passed, lent-sound, lent-good}
 use Rattle.catalogue.proofs.Answers.{all-refused, all-done}
 use Rattle.questions.specs.Questions.{isWithin}
 use Rattle.ground.specs.Calls.{isRefused}
@@ -9,7 +9,7 @@ use Rattle.catalogue.proofs.all_within.Statement.{statement}
 use Rattle.catalogue.proofs.all_within.Tie as tie
 use Rattle.catalogue.proofs.all_within.Reads as reads
 use Rattle.catalogue.proofs.all_within.Lts as lts
-use Rattle.lent.proofs.check_lent.Reads as check-lent-reads
+use Rattle.tables.proofs.check_lent.Reads as check-lent-reads
 use Rattle.answers.proofs.refused.Reads as refused-reads
 use Rattle.questions.proofs.all_within.Reads as all-within-reads
 

@@ -1,5 +1,5 @@
 -- As `any_within`, of a list: behind the checks the first tag, or 0, is the value.
-use Rattle.lent.proofs.Lent.{lent-passed, lent-sound, lent-good}
+use Rattle.tables.proofs.Lent.{lent-passed, lent-sound, lent-good}
 use Rattle.catalogue.proofs.Answers.{any-refused, any-done}
 use Rattle.questions.specs.Questions.{isContaining}
 use Rattle.ground.specs.Calls.{isRefused}
@@ -10,7 +10,7 @@ use Rattle.catalogue.proofs.any_containing.Tie as tie
 use Rattle.catalogue.proofs.any_containing.Reads as reads
 use Rattle.catalogue.proofs.any_containing.Lts as lts
 use Rattle.ground.proofs.wide16.Reads as wide16-reads
-use Rattle.lent.proofs.check_lent.Reads as check-lent-reads
+use Rattle.tables.proofs.check_lent.Reads as check-lent-reads
 use Rattle.answers.proofs.refused.Reads as refused-reads
 use Rattle.questions.proofs.any_containing.Reads as any-containing-reads
 

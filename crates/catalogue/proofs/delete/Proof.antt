@@ -1,6 +1,6 @@
 -- A list too long for a row is no kit held, and leaves both tables; of any other the row's promise is the call's.
 use Rattle.catalogue.proofs.Answers.{row-units, row-short, delete-refused, delete-long, delete-done}
-use Rattle.lent.proofs.Lent.{LentList, lent-passed, lent-sound}
+use Rattle.tables.proofs.Lent.{LentList, lent-passed, lent-sound}
 use Rattle.kits.specs.Kits.{mostUnits, units}
 use Rattle.ground.specs.Calls.{isRefused}
 use borrow.Author.Tests.{leb-true, not-true, not-false}
@@ -15,7 +15,7 @@ use Rattle.catalogue.proofs.delete.Lts as lts
 use Rattle.index.proofs.delete.Reads as delete-reads
 use Rattle.kits.proofs.has_room.Reads as has-room-reads
 use Rattle.kits.proofs.row_of.Reads as row-of-reads
-use Rattle.lent.proofs.check_lent.Reads as check-lent-reads
+use Rattle.tables.proofs.check_lent.Reads as check-lent-reads
 use Rattle.answers.proofs.refused.Reads as refused-reads
 
 check-lent-requires : tie.Need-check-lent-requires

@@ -7,7 +7,7 @@ use Rattle.catalogue.proofs.empty.Tie as tie
 use Rattle.catalogue.proofs.empty.Reads as reads
 use Rattle.catalogue.proofs.empty.Lts as lts
 use Rattle.ground.proofs.clear.Reads as clear-reads
-use Rattle.lent.proofs.check_lengths.Reads as check-lengths-reads
+use Rattle.tables.proofs.check_lengths.Reads as check-lengths-reads
 use Rattle.answers.proofs.refused.Reads as refused-reads
 use Rattle.nodes.proofs.clear_nodes.Reads as clear-nodes-reads
 

@@ -1,7 +1,7 @@
 -- No kit held is of more than 64 units, so a longer list is not held; any other is found by its row.
 use Prim.Native.Nat.{_≤_}
 use Rattle.catalogue.proofs.Answers.{row-units, row-short, find-refused, find-long, find-done}
-use Rattle.lent.proofs.Lent.{LentList, lent-passed, lent-sound}
+use Rattle.tables.proofs.Lent.{LentList, lent-passed, lent-sound}
 use lib.ListN.{length}
 use Rattle.kits.specs.Kits.{mostUnits, units}
 use Rattle.ground.specs.Calls.{isRefused}
@@ -15,7 +15,7 @@ use Rattle.catalogue.proofs.find.Lts as lts
 use Rattle.index.proofs.find.Reads as find-reads
 use Rattle.kits.proofs.has_room.Reads as has-room-reads
 use Rattle.kits.proofs.row_of.Reads as row-of-reads
-use Rattle.lent.proofs.check_lent.Reads as check-lent-reads
+use Rattle.tables.proofs.check_lent.Reads as check-lent-reads
 use Rattle.answers.proofs.refused.Reads as refused-reads
 
 check-lent-requires : tie.Need-check-lent-requires

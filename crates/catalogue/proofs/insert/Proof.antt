@@ -3,7 +3,7 @@ use Rattle.nodes.proofs.Lists.{zero-or}
 use borrow.Author.Tests.{leb-true, not-true, not-false}
 use mathlib.Core.Logic.{⊎-elim}
 use Rattle.catalogue.proofs.Answers.{row-units, row-short, row-good, insert-refused, insert-no-tag, insert-mistyped, insert-too-many, insert-done}
-use Rattle.lent.proofs.Lent.{Lent, both-passed, lent-sound, few-parts, good-most, list-passed}
+use Rattle.tables.proofs.Lent.{Lent, both-passed, lent-sound, few-parts, good-most, list-passed}
 use Rattle.kits.specs.Kits.{mostUnits, mostPlace, units, goodList}
 use Rattle.ground.specs.Calls.{isRefused}
 use borrow.Author.Tests.{leb-true, not-true, not-false}
@@ -19,8 +19,8 @@ use Rattle.catalogue.proofs.insert.Lts as lts
 use Rattle.index.proofs.insert.Reads as insert-reads
 use Rattle.kits.proofs.has_room.Reads as has-room-reads
 use Rattle.kits.proofs.row_of.Reads as row-of-reads
-use Rattle.lent.proofs.check_lines.Reads as check-lines-reads
-use Rattle.lent.proofs.check_tables.Reads as check-tables-reads
+use Rattle.tables.proofs.check_lines.Reads as check-lines-reads
+use Rattle.tables.proofs.check_tables.Reads as check-tables-reads
 use Rattle.answers.proofs.refused.Reads as refused-reads
 
 check-tables-requires : tie.Need-check-tables-requires

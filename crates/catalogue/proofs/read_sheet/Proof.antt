@@ -1,6 +1,6 @@
 -- Lengths are all that is asked of the tables, for they are filled anew; the sheet's own refusals stand behind.
 use Rattle.catalogue.proofs.Answers.{read-refused, read-done}
-use Rattle.lent.proofs.Lent.{lengths-passed}
+use Rattle.tables.proofs.Lent.{lengths-passed}
 use Rattle.ground.specs.Calls.{isRefused}
 use mathlib.Core.Path.{sym, ap, _∙_}
 use borrow.Author.Needs.{needs}
@@ -8,8 +8,8 @@ use Rattle.catalogue.proofs.read_sheet.Statement.{statement}
 use Rattle.catalogue.proofs.read_sheet.Tie as tie
 use Rattle.catalogue.proofs.read_sheet.Reads as reads
 use Rattle.catalogue.proofs.read_sheet.Lts as lts
-use Rattle.filling.proofs.read_sheet.Reads as read-sheet-reads
-use Rattle.lent.proofs.check_lengths.Reads as check-lengths-reads
+use Rattle.sheet_read.proofs.read_sheet.Reads as read-sheet-reads
+use Rattle.tables.proofs.check_lengths.Reads as check-lengths-reads
 use Rattle.answers.proofs.refused.Reads as refused-reads
 
 check-lengths-requires : tie.Need-check-lengths-requires

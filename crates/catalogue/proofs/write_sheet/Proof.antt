@@ -1,6 +1,6 @@
 -- Tables that pass are ready to be written; room alone can refuse then, behind the checks that did not.
 use Rattle.catalogue.proofs.Answers.{write-refused, write-done}
-use Rattle.lent.proofs.Lent.{both-passed, lent-sound}
+use Rattle.tables.proofs.Lent.{both-passed, lent-sound}
 use Rattle.ground.specs.Calls.{isRefused}
 use mathlib.Core.Path.{sym, ap, _∙_}
 use borrow.Author.Needs.{needs}
@@ -8,9 +8,9 @@ use Rattle.catalogue.proofs.write_sheet.Statement.{statement}
 use Rattle.catalogue.proofs.write_sheet.Tie as tie
 use Rattle.catalogue.proofs.write_sheet.Reads as reads
 use Rattle.catalogue.proofs.write_sheet.Lts as lts
-use Rattle.lent.proofs.check_tables.Reads as check-tables-reads
+use Rattle.tables.proofs.check_tables.Reads as check-tables-reads
 use Rattle.answers.proofs.refused.Reads as refused-reads
-use Rattle.writing.proofs.write_sheet.Reads as write-sheet-reads
+use Rattle.sheet_write.proofs.write_sheet.Reads as write-sheet-reads
 
 check-tables-requires : tie.Need-check-tables-requires
 check-tables-requires c κs = search needs

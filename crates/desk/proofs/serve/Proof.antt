@@ -3,7 +3,7 @@ use mathlib.Core.Path.{_≡_, refl, sym, _∙_}
 use lib.ListN.{length}
 use lib.Seq.{length-take-le}
 use borrow.Author.Needs.{needs}
-use Rattle.lent.specs.Lent.{tables}
+use Rattle.ground.specs.Tables.{tables}
 use Rattle.desk.specs.Inner.{AtHand, Keeps}
 use Rattle.desk.proofs.Serving.{SameLengths, same-start, Read, none-read, more-read, nothing-left, line-left}
 use Rattle.desk.proofs.serve.Statement.{statement}

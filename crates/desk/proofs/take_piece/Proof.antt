@@ -6,7 +6,7 @@ use Prim.Native.Nat.{_-_}
 use native.Mathlib.Omega.{arith}
 use lib.ListN.{length, take}
 use borrow.Author.Needs.{needs}
-use Rattle.lent.specs.Lent.{tables}
+use Rattle.ground.specs.Tables.{tables}
 use Rattle.desk.proofs.Serving.{Underway, SameLengths, same-start, starts, kept-inside, line-goes-on, line-ends, piece-done}
 use Rattle.desk.proofs.take_piece.Statement.{statement}
 use Rattle.desk.proofs.take_piece.Tie as tie

@@ -3,7 +3,7 @@ use Rattle.desk_lines.proofs.Outputs.{other-outputs, register-outputs, 
 use mathlib.Core.Path.{sym, _∙_}
 use native.Mathlib.Omega.{arith}
 use borrow.Author.Tests.{not-true, not-false}
-use Rattle.lent.specs.Lent.{tables}
+use Rattle.ground.specs.Tables.{tables}
 use Rattle.desk_lines.proofs.Good.{line-some, list-pairs}
 use Rattle.desk_lines.proofs.Answering.{other-answers, register-answers, insert-answers, write-answers, ask-answers}
 use borrow.Author.Needs.{needs}

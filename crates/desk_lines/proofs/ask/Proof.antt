@@ -1,7 +1,7 @@
 -- Each letter has its call's promise; only `b` and `s` change the places, and what they set down lies inside.
 use Rattle.desk_lines.proofs.Outputs.{finds-leaves, deletes-leaves, within-leaves, containing-leaves, all-within-lists, all-containing-lists}
 use native.Mathlib.Omega.{arith}
-use Rattle.lent.specs.Lent.{tables}
+use Rattle.ground.specs.Tables.{tables}
 use Rattle.answers.specs.Answers.{reply}
 use Rattle.desk_lines.proofs.Answering.{within-inside, containing-inside, asked-finds, asked-deletes, asked-within, asked-containing, asked-all-within, asked-all-containing}
 use borrow.Author.Needs.{needs}

@@ -5,7 +5,7 @@ use mathlib.Core.Bool.{false}
 use Rattle.ground.specs.Calls.{isRefused}
 use Rattle.answers.specs.Answers.{reply}
 use lib.Seq.{length-take-le}
-use Rattle.lent.specs.Lent.{tables}
+use Rattle.ground.specs.Tables.{tables}
 use Rattle.desk_text.specs.Lines.{fieldsFrom}
 use Rattle.desk_lines.proofs.Good.{behind-letter}
 use Rattle.desk_lines.proofs.Answering.{ask-typed, ask-stopped, words-inside}

@@ -2,7 +2,7 @@
 use mathlib.Core.Path.{_≡_, sym, _∙_}
 use mathlib.Core.Bool.{false}
 use lib.Seq.{length-take-le}
-use Rattle.lent.specs.Lent.{tables}
+use Rattle.ground.specs.Tables.{tables}
 use Rattle.ground.specs.Calls.{isRefused}
 use Rattle.answers.specs.Answers.{reply}
 use Rattle.desk_text.specs.Lines.{fieldsFrom}

@@ -1,6 +1,6 @@
 -- What the call says that it set down lies inside the sheet's room, so just that is printed.
 use native.Mathlib.Omega.{arith}
-use Rattle.lent.specs.Lent.{tables}
+use Rattle.ground.specs.Tables.{tables}
 use Rattle.catalogue.specs.Calls.{writing}
 use Rattle.desk_text.specs.Letters.{writes}
 use Rattle.desk_lines.specs.Desk.{sheetText, writeLine}

@@ -1,0 +1,78 @@
+-- What pruning keeps from node to node: going on from where it is leads to the same table.
+use mathlib.Core.Path.{_≡_, refl, sym, ap, _∙_}
+use mathlib.Core.List.{List}
+use Prim.Native.Nat.{ℕ, suc, _<_}
+use native.Mathlib.Omega.{arith}
+use native.Mathlib.Numerals.{add-one}
+use lib.ListN.{length, set}
+use Rattle.kits.specs.Kits.{mostPlace}
+use Rattle.nodes.specs.Nodes.{at, tagWord, parent, child, depth, tag, size}
+use Rattle.nodes.proofs.Rows.{climb, live-inside}
+use Rattle.index_links.specs.Links.{unlink}
+use Rattle.index_links.specs.Inner.{Unlinks}
+use Rattle.index_insert.proofs.Retag.{retag-shape, retag-to, retag-depth}
+use Rattle.index_delete.specs.Strike.{prune, strikeAt}
+use Rattle.index_delete.specs.Inner.{Prunes}
+use Rattle.index_delete.proofs.Trimmed.{prune-goes, prune-tag, prune-child, prune-root, up-prunes, up-depth, off}
+
+pub record Pruning (N₀ : List ℕ) (i₀ : ℕ) (N : List ℕ) (i : ℕ) : Type 0 where
+  pub same-length : length N ≡ length N₀
+  pub prunes : Prunes mostPlace N i
+  pub same : prune N (depth N i) i ≡ prune N₀ (depth N₀ i₀) i₀
+
+pub prune-start : {N : List ℕ} {i : ℕ} → Prunes mostPlace N i → Pruning N i N i
+prune-start P = record { same-length = refl; prunes = P; same = refl }
+
+module _ {N₀ N : List ℕ} {i₀ i : ℕ} (P : Pruning N₀ i₀ N i) where
+  pub prune-inside : i < size N
+  prune-inside = live-inside (climb (P .prunes .shape)) i (P .prunes .live)
+
+  pub prune-end : i ≡ 0 → N ≡ prune N₀ (depth N₀ i₀) i₀
+  prune-end e = sym (prune-root N i) ∙ ap (λ (k : ℕ). prune N k i) (sym (ap (depth N) e ∙ P .prunes .shape .root .no-depth)) ∙ P .same
+
+  module _ (n : i ≡ 0 → ⊥) where
+    pos : 0 < i
+    pos = omega arith
+
+    deep : depth N i ≡ suc (depth N (parent N i))
+    deep = rw (← add-one (depth N (parent N i))) (P .prunes .shape .good i (P .prunes .live pos) .deeper)
+
+    pub prune-unlinks : Unlinks N i
+    prune-unlinks = record { shape = P .prunes .shape; used = P .prunes .live pos }
+
+    pub prune-at-tag : {t : ℕ} → t ≡ tag N i → (t ≡ 0 → ⊥) → N ≡ prune N₀ (depth N₀ i₀) i₀
+    prune-at-tag e h = sym (ap (λ (k : ℕ). prune N k i) deep ∙ prune-tag N (depth N (parent N i)) i (λ z. h (e ∙ z))) ∙ P .same
+
+    module _ {t c : ℕ} (te : t ≡ tag N i) (tz : t ≡ 0) (ce : c ≡ child N i) where
+      pub prune-at-child : (c ≡ 0 → ⊥) → N ≡ prune N₀ (depth N₀ i₀) i₀
+      prune-at-child h = sym (ap (λ (k : ℕ). prune N k i) deep ∙ prune-child N (depth N (parent N i)) i (λ z. h (ce ∙ z))) ∙ P .same
+
+      module _ (cz : c ≡ 0) {q : ℕ} {L : List ℕ} (qe : q ≡ parent N i) (le : L ≡ unlink N i) where
+        lone : child N i ≡ 0
+        lone = sym ce ∙ cz
+
+        above : depth (unlink N i) (parent N i) ≡ depth N (parent N i)
+        above = omega (arith, up-depth (P .prunes) pos lone, deep)
+
+        pub prune-less : depth L q < depth N i
+        prune-less = rw (qe, le) (omega (arith, above, deep))
+
+        pub prune-up : Pruning N₀ i₀ L q
+        prune-up = rw (qe, le) (record {
+          same-length = sym (off (P .prunes) pos lone .same-length) ∙ P .same-length;
+          prunes = up-prunes (P .prunes) pos lone;
+          same =
+              ap (λ (k : ℕ). prune (unlink N i) k (parent N i)) above ∙ sym (prune-goes N (depth N (parent N i)) i (sym te ∙ tz) lone) ∙ ap
+              (λ (k : ℕ). prune N k i) (sym deep) ∙ P .same;
+        })
+
+-- the tag is cleared first
+pub cleared-prunes : {parts : ℕ} {N : List ℕ} {i : ℕ} → Prunes parts N i → Prunes parts (set N (at i tagWord) 0) i
+cleared-prunes {N = N} {i = i} P = record { shape = retag-shape N i 0 (P .shape) (P .live); live = λ g. retag-to N i 0 i (P .live g) }
+
+pub strike-words : (N L M : List ℕ) (i : ℕ) → L ≡ set N (at i tagWord) 0 → M ≡ prune L (depth L i) i → M ≡ strikeAt N i
+unfolding strikeAt
+strike-words N L M i e m = rw e at m ∙ ap (λ (k : ℕ). prune (set N (at i tagWord) 0) k i) (retag-depth N i 0 i)
+
+pub cleared-asked : {N L : List ℕ} {i : ℕ} → Prunes mostPlace N i → L ≡ set N (at i tagWord) 0 → Prunes mostPlace L i
+cleared-asked P e = rw e (cleared-prunes P)

@@ -1,0 +1,36 @@
+-- Document 01, "Insertion takes missing nodes from shallow to deep, each the lowest numbered free one", word for word.
+use mathlib.Core.Bool.{cond}
+use mathlib.Core.List.{List, [], _∷_}
+use Prim.Native.Nat.{ℕ}
+use lib.ListN.{length, set}
+use Rattle.ground.specs.Lists.{firstOr, isZero}
+use Rattle.nodes.specs.Nodes.{at, tagWord, size, nodesOf, isFree}
+use Rattle.nodes.specs.Held.{Kit}
+use Rattle.index_links.specs.Links.{childWith, link}
+
+-- the lowest numbered free node; where there is none, the number of nodes
+unfoldable pub lowestFree : List ℕ → ℕ
+lowestFree N = firstOr (size N) (isFree N) (nodesOf N)
+
+-- from node p down: the table with the row's missing nodes taken, shallow to deep, and the tag set at its end
+unfoldable pub enter : List ℕ → ℕ → List ℕ → ℕ → List ℕ
+enter N p [] t = set N (at p tagWord) t
+enter N p (l ∷ ls) t =
+    let c = childWith N p l in
+    let f = lowestFree N in
+    enter (cond (isZero c) (link N p l f) N) (cond (isZero c) f c) ls t
+
+-- how many nodes the row lacks below p
+unfoldable pub lacks : List ℕ → ℕ → List ℕ → ℕ
+lacks N p [] = 0
+lacks N p (l ∷ ls) = let c = childWith N p l in cond (isZero c) (length (l ∷ ls)) (lacks N c ls)
+
+-- the node at the end of a row that the table has below p
+unfoldable pub nodeOf : List ℕ → ℕ → List ℕ → ℕ
+nodeOf N p [] = p
+nodeOf N p (l ∷ ls) = nodeOf N (childWith N p l) ls
+
+-- kits entered one after the other
+unfoldable pub enterAll : List ℕ → List Kit → List ℕ
+enterAll N [] = N
+enterAll N (k ∷ ks) = enterAll (enter N 0 (k .row) (k .tag)) ks

@@ -1,0 +1,56 @@
+-- Those passed are right by themselves; the first that is not refuses the table.
+use Prim.Native.Nat.{_-_}
+use native.Mathlib.Omega.{arith}
+use Rattle.nodes_check.specs.Inner.{Spot}
+use Rattle.nodes_check.proofs.Answers.{Passing, pass-start, pass-inside, pass-refuses, pass-on, pass-end}
+use Rattle.nodes_check.proofs.spots_ok.Statement.{statement}
+use Rattle.nodes_check.proofs.spots_ok.Tie as tie
+
+abbrev Inv-loop : tie.InvT-loop
+Inv-loop nodes parts n i₀ i = Passing nodes (Spot parts nodes) n i
+
+abbrev μ-loop : tie.MeasureT-loop
+μ-loop nodes parts n i₀ i = n - i
+
+node-count-requires : tie.Need-node-count-requires Inv-loop μ-loop
+node-count-requires c κs = tt
+
+loop-holds : tie.Need-loop-holds Inv-loop μ-loop
+loop-holds c = pass-start (c .node-count .ensures)
+
+spot-ok-requires : tie.Need-spot-ok-requires Inv-loop μ-loop
+spot-ok-requires c κs = pass-inside (c .before .loop .inv) (c .loop-test .taken)
+
+returns : tie.Need-returns Inv-loop μ-loop
+returns c =
+    let at-loop : tie.At-loop Inv-loop μ-loop = search in
+    pass-refuses (at-loop .loop .inv) (c .before .before .loop-test .taken) (c .before .spot-ok .ensures) (c .if1 .taken)
+
+add-i : tie.Need-add-i Inv-loop μ-loop
+add-i c = omega arith
+
+loop-less : tie.Need-loop-less Inv-loop μ-loop
+loop-less c = omega arith
+
+loop-again : tie.Need-loop-again Inv-loop μ-loop
+loop-again c =
+    let at-loop : tie.At-loop Inv-loop μ-loop = search in
+    pass-on (at-loop .loop .inv) (c .before .before .loop-test .taken) (c .before .spot-ok .ensures) (c .if1 .left)
+
+returns-2 : tie.Need-returns-2 Inv-loop μ-loop
+returns-2 c = pass-end (c .before .loop .inv) (omega arith)
+
+pub spots-ok-spec : {M : Type 1} → statement M
+spots-ok-spec =
+    tie.close
+    (tie.spec
+    Inv-loop
+    μ-loop
+    node-count-requires
+    loop-holds
+    spot-ok-requires
+    returns
+    add-i
+    loop-less
+    loop-again
+    returns-2)

@@ -1,0 +1,251 @@
+-- Laws of the numbers of a sheet: those that stand from a place on, which one is repeated, and where the next ends.
+use mathlib.Core.Path.{_≡_, refl, ap, sym, _∙_}
+use mathlib.Core.Bool.{Bool, true, false, _||_, not}
+use mathlib.Core.List.{List, [], _∷_, _++_, append-assoc, append-nil}
+use Prim.Native.Nat.{ℕ, zero, suc, _+_, _-_, _≤_, _<_}
+use native.Mathlib.Nat.{add-zero, sub-zero}
+use native.Mathlib.Numerals.{add-one}
+use native.Mathlib.Omega.{arith}
+use lib.ListN.{length, take, drop, getD, length-drop}
+use lib.Seq.{drop-drop, getD-drop}
+use Rattle.ground.specs.Lists.{anyb, every, eqList}
+use Rattle.ground.proofs.Laws.{anyb-append}
+use Rattle.register.specs.Number.{goodNumber}
+use Rattle.sheet.specs.Reading.{Item, item, fault, onward, one, numberSize, newNumber, numbers}
+use Rattle.sheet_judge.specs.Inner.{numberHere, nextPlace, numbersAt, endAt, placeOf, Numbered}
+use Rattle.sheet.specs.Inner.{headBytes}
+use Rattle.sheet_judge.proofs.Front.{one-short, one-bad, one-ok, place-fault, place-item, place-moved, place-stays, Moved}
+
+module _ (s : List ℕ) where
+  -- the first number, and those behind it
+  pub end-step : (j i k : ℕ) → i < k → endAt s j (k - i) ≡ endAt s (nextPlace s j) (k - (i + 1))
+  unfolding endAt
+  end-step j i k h = let e : k - i ≡ suc (k - (i + 1)) = omega arith in rw e
+
+  pub numbers-at-step : (j i k : ℕ) → i < k → numbersAt s j (k - i) ≡ numberHere s j ∷ numbersAt s (nextPlace s j) (k - (i + 1))
+  unfolding numbersAt
+  numbers-at-step j i k h = let e : k - i ≡ suc (k - (i + 1)) = omega arith in rw e
+
+  pub numbers-at-end : (j i k : ℕ) → k ≤ i → numbersAt s j (k - i) ≡ []
+  unfolding numbersAt
+  numbers-at-end j i k h = let e : k - i ≡ 0 = omega arith in rw e
+
+  pub end-behind : (j k : ℕ) → j ≤ endAt s j k
+  unfolding endAt
+  end-behind j zero = omega arith
+  end-behind j (suc k) = omega (arith, end-behind (nextPlace s j) k)
+
+  -- the last number
+  pub end-last : (j k : ℕ) → endAt s j (suc k) ≡ nextPlace s (endAt s j k)
+  unfolding endAt
+  end-last j zero = refl
+  end-last j (suc k) = end-last (nextPlace s j) k
+
+  pub numbers-at-last : (j k : ℕ) → numbersAt s j (suc k) ≡ numbersAt s j k ++ (numberHere s (endAt s j k) ∷ [])
+  unfolding numbersAt endAt
+  numbers-at-last j zero = refl
+  numbers-at-last j (suc k) = ap (_∷_ (numberHere s j)) (numbers-at-last (nextPlace s j) k)
+
+  pub numbers-many : (j k : ℕ) → length (numbersAt s j k) ≡ k
+  unfolding numbersAt
+  numbers-many j zero = refl
+  numbers-many j (suc k) = ap suc (numbers-many (nextPlace s j) k)
+
+any-cons : (p : List ℕ → Bool) (x : List ℕ) (xs : List (List ℕ)) → anyb p (x ∷ xs) ≡ (p x || anyb p xs)
+unfolding anyb
+any-cons p x xs = refl
+
+pub any-yes : (p : List ℕ → Bool) (x : List ℕ) (xs : List (List ℕ)) → p x ≡ true → anyb p (x ∷ xs) ≡ true
+unfolding anyb
+any-yes p x xs e = rw e
+
+pub any-no : (p : List ℕ → Bool) (x : List ℕ) (xs : List (List ℕ)) → p x ≡ false → anyb p (x ∷ xs) ≡ anyb p xs
+unfolding anyb
+any-no p x xs e = rw e
+
+pub any-end : (p : List ℕ → Bool) → anyb p [] ≡ false
+unfolding anyb
+any-end p = refl
+
+-- The number at a place
+module _ (s : List ℕ) (at : ℕ) where
+  size-here : numberSize (drop at s) ≡ 1 + getD s at 0
+  unfolding numberSize
+  size-here = rw (getD-drop at s 0 0, add-zero)
+
+  size-some : 0 < numberSize (drop at s)
+  size-some = omega (arith, size-here)
+
+  pub read-here : drop 1 (take (numberSize (drop at s)) (drop at s)) ≡ numberHere s at
+  read-here = rw (size-here) (drop-first (getD s at 0) (drop at s) ∙ rw (drop-drop) refl)
+    where
+      drop-first : (n : ℕ) (l : List ℕ) → drop 1 (take (1 + n) l) ≡ take n (drop 1 l)
+      drop-first n l = let e : 1 + n ≡ suc n = omega arith in rw e (go l)
+        where
+          go : (l : List ℕ) → drop 1 (take (suc n) l) ≡ take n (drop 1 l)
+          go [] = take-none n
+            where
+              take-none : (n : ℕ) → [] ≡ take {A = ℕ} n []
+              take-none zero = refl
+              take-none (suc n) = refl
+          go (x ∷ l) = refl
+
+  module _ (seen : List (List ℕ)) where
+    abbrev this : Item (List ℕ)
+    this = one numberSize (newNumber seen) (drop at s) at
+
+    new-here : newNumber seen (take (numberSize (drop at s)) (drop at s)) ≡ every (goodNumber (numberHere s at) ∷ not (anyb (eqList (numberHere s at)) seen) ∷ [])
+    unfolding newNumber
+    new-here = rw read-here
+
+    pub number-none : length s ≤ at → at ≡ placeOf this
+    number-none h =
+        sym (ap placeOf (one-short numberSize (newNumber seen) (drop at s) at (omega (arith, length-drop at s, size-some))) ∙ place-fault
+        at)
+
+    pub number-cut : at < length s → length s - (at + 1) < getD s at 0 → at ≡ placeOf this
+    number-cut h k =
+        sym (ap placeOf (one-short numberSize (newNumber seen) (drop at s) at (omega (arith, length-drop at s, size-here))) ∙ place-fault
+        at)
+
+    pub number-bad : goodNumber (numberHere s at) ≡ false → at ≡ placeOf this
+    unfolding every
+    number-bad g = sym (ap placeOf (one-bad numberSize (newNumber seen) (drop at s) at (new-here ∙ rw g)) ∙ place-fault at)
+
+    pub number-twice : goodNumber (numberHere s at) ≡ true → anyb (eqList (numberHere s at)) seen ≡ true → at ≡ placeOf this
+    unfolding every
+    number-twice g h = sym (ap placeOf (one-bad numberSize (newNumber seen) (drop at s) at (new-here ∙ rw (g, h))) ∙ place-fault at)
+
+    pub number-taken : at + 1 + getD s at 0 ≤ length s → goodNumber (numberHere s at) ≡ true →
+        anyb (eqList (numberHere s at)) seen ≡ false → at + 1 + getD s at 0 ≡ placeOf this
+    unfolding every
+    number-taken l g h =
+        let i = one-ok numberSize (newNumber seen) (drop at s) at (omega (arith, length-drop at s, size-here)) (new-here ∙ rw (g, h)) in
+        let e : at + 1 + getD s at 0 ≡ at + numberSize (drop at s) = omega (arith, size-here) in
+        e ∙ sym (ap placeOf i ∙ place-item (take (numberSize (drop at s)) (drop at s)) (drop (numberSize (drop at s)) (drop at s))
+        (at + numberSize (drop at s)))
+
+-- numbers read before those of a reading
+unfoldable pub ahead : List (List ℕ) → Item (List (List ℕ)) → Item (List (List ℕ))
+ahead pre (item ns bs o) = item (pre ++ ns) bs o
+ahead pre (fault o) = fault o
+
+ahead-on : (pre : List (List ℕ)) (x : List ℕ) (m : Item (List (List ℕ))) →
+    ahead pre (onward m (λ ns bs o. item (x ∷ ns) bs o)) ≡ ahead (pre ++ (x ∷ [])) m
+unfolding ahead onward
+ahead-on pre x (item ns bs o) = rw (append-assoc)
+ahead-on pre x (fault o) = refl
+
+-- the loop over the numbers: k of n are read, and the next starts at a place
+pub record Numbering (s : List ℕ) (n k at : ℕ) : Type 0 where
+  pub seen : List (List ℕ)
+  pub same : (x : List ℕ) → anyb (eqList x) seen ≡ anyb (eqList x) (numbersAt s headBytes k)
+  pub goes : numbers n [] (drop headBytes s) headBytes ≡ ahead (numbersAt s headBytes k) (numbers (n - k) seen (drop at s) at)
+  pub ends : at ≡ endAt s headBytes k
+  pub inside : at ≤ length s
+
+ahead-none : (m : Item (List (List ℕ))) → ahead [] m ≡ m
+unfolding ahead
+ahead-none (item ns bs o) = refl
+ahead-none (fault o) = refl
+
+pub ahead-fault : (pre : List (List ℕ)) (o : ℕ) → ahead pre (fault o) ≡ fault o
+unfolding ahead
+ahead-fault pre o = refl
+
+ahead-item : (pre ns : List (List ℕ)) (bs : List ℕ) (o : ℕ) → ahead pre (item ns bs o) ≡ item (pre ++ ns) bs o
+unfolding ahead
+ahead-item pre ns bs o = refl
+
+numbers-suc : (m : ℕ) (seen : List (List ℕ)) (bs b rest : List ℕ) (o p : ℕ) → one numberSize (newNumber seen) bs o ≡ item b rest p →
+    numbers (suc m) seen bs o ≡ onward (numbers m (drop 1 b ∷ seen) rest p) (λ ns bs o. item (drop 1 b ∷ ns) bs o)
+unfolding numbers onward
+numbers-suc m seen bs b rest o p e = rw e
+
+numbers-faulty : (m : ℕ) (seen : List (List ℕ)) (bs : List ℕ) (o : ℕ) → one numberSize (newNumber seen) bs o ≡ fault o →
+    numbers (suc m) seen bs o ≡ fault o
+unfolding numbers onward
+numbers-faulty m seen bs o e = rw e
+
+numbers-none : (seen : List (List ℕ)) (bs : List ℕ) (o : ℕ) → numbers 0 seen bs o ≡ item [] bs o
+unfolding numbers
+numbers-none seen bs o = refl
+
+turn-or : (a b : Bool) → (b || a) ≡ (a || (b || false))
+turn-or true true = refl
+turn-or true false = refl
+turn-or false true = refl
+turn-or false false = refl
+
+none-at : (s : List ℕ) → numbersAt s headBytes 0 ≡ []
+unfolding numbersAt
+none-at s = refl
+
+end-none : (s : List ℕ) → endAt s headBytes 0 ≡ headBytes
+unfolding endAt
+end-none s = refl
+
+pub numbering-start : (s : List ℕ) (n : ℕ) → headBytes ≤ length s → Numbering s n 0 headBytes
+numbering-start s n h = record {
+  seen = [];
+  same = λ x. rw (none-at s) refl;
+  goes = rw (none-at s, sub-zero) (sym (ahead-none (numbers n [] (drop headBytes s) headBytes)));
+  ends = sym (end-none s);
+  inside = h;
+}
+
+module _ {s : List ℕ} {n k at : ℕ} (N : Numbering s n k at) where
+  abbrev next : Item (List ℕ)
+  next = one numberSize (newNumber (N .seen)) (drop at s) at
+
+  pub numbering-end : n ≡ k → Numbered s n at
+  numbering-end e =
+      let z : n - k ≡ 0 = omega arith in
+      record {
+        ns = numbersAt s headBytes k;
+        many = numbers-many s headBytes k ∙ sym e;
+        inside = N .inside;
+        goes = N .goes ∙ rw (z, numbers-none (N .seen) (drop at s) at, ahead-item (numbersAt s headBytes k) [] (drop at s) at, append-nil);
+      }
+
+  module _ (h : k < n) (r : ℕ) (p : r ≡ placeOf next) where
+    pub numbering-fault : r ≡ at → numbers n [] (drop headBytes s) headBytes ≡ fault at
+    numbering-fault e =
+        let z : n - k ≡ suc (n - (k + 1)) = omega arith in
+        let f = place-stays numberSize (newNumber (N .seen)) (drop at s) at r (size-some s at) p e in
+        N .goes ∙ rw (z, numbers-faulty (n - (k + 1)) (N .seen) (drop at s) at f) (ahead-fault (numbersAt s headBytes k) at)
+
+    module _ (f : (r ≡ at → ⊥)) where
+      M : Moved numberSize (newNumber (N .seen)) (drop at s) at r
+      M = place-moved numberSize (newNumber (N .seen)) (drop at s) at r p f
+
+      ends-at : r ≡ nextPlace s at
+      ends-at = M .ends ∙ (omega (arith, size-here s at))
+
+      at-is : numbersAt s headBytes (k + 1) ≡ numbersAt s headBytes k ++ (numberHere s at ∷ [])
+      at-is = rw (add-one k) (numbers-at-last s headBytes k ∙ rw (← N .ends) refl)
+
+      pub next-inside : r ≤ length s
+      next-inside = omega (arith, M .ends, M .inside, length-drop at s, N .inside)
+
+      pub numbering-on : Numbering s n (k + 1) r
+      numbering-on =
+          let z : n - k ≡ suc (n - (k + 1)) = omega arith in
+          let x = numberHere s at in
+          let d : drop (numberSize (drop at s)) (drop at s) ≡ drop r s = drop-drop (numberSize (drop at s)) at s ∙ ap (λ (i : ℕ). drop i s)
+          (sym (M .ends)) in
+          let g = numbers-suc (n - (k + 1)) (N .seen) (drop at s) (take (numberSize (drop at s)) (drop at s))
+          (drop (numberSize (drop at s)) (drop at s)) at (at + numberSize (drop at s)) (M .is) in
+          let e = M .ends in
+          let y = read-here s at in
+          let b = rw (y, d, ← e) at g in
+          record {
+            seen = x ∷ N .seen;
+            same =
+                λ w. any-cons (eqList w) x (N .seen) ∙ rw
+                (N .same w, at-is, anyb-append (eqList w) (numbersAt s headBytes k) (x ∷ []), any-cons (eqList w) x [], any-end (eqList w))
+                (turn-or (anyb (eqList w) (numbersAt s headBytes k)) (eqList w x));
+            goes = N .goes ∙ rw (z, b, at-is) (ahead-on (numbersAt s headBytes k) x (numbers (n - (k + 1)) (x ∷ N .seen) (drop r s) r));
+            ends = ends-at ∙ sym (rw (add-one k) (end-last s headBytes k ∙ rw (← N .ends) refl));
+            inside = next-inside;
+          }

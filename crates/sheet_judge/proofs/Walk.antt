@@ -1,0 +1,246 @@
+-- The walk over the kit records: what is known behind k of them, and what the judge may answer.
+use mathlib.Core.Path.{_≡_, refl, ap, sym, _∙_}
+use mathlib.Core.Bool.{Bool, true, false, _||_, not}
+use mathlib.Core.List.{List, [], _∷_, _++_}
+use Prim.Native.Nat.{ℕ, suc, _+_, _-_, _*_, _≤_, _<_}
+use native.Mathlib.Nat.{sub-zero}
+use native.Mathlib.Omega.{arith}
+use lib.ListN.{length, take, drop, getD, set, length-drop, length-append, length-set, drop-of-length-le}
+use lib.Dec.{eqb}
+use lib.Seq.{drop-drop, getD-set-same, getD-set-other}
+use borrow.Author.Tests.{eq-eqb, ne-eqb, eqb-true, eqb-false}
+use Rattle.ground.specs.Lists.{anyb, isZero}
+use Rattle.kits.specs.Kits.{units, mostUnits}
+use Rattle.kits.specs.Inner.{agreed, unitsIn, fixedRow}
+use Rattle.kits.specs.declared.Row.{Row}
+use Rattle.kits.proofs.Rows.{row-back}
+use Rattle.nodes.specs.Held.{Kit, allBeginnings}
+use Rattle.sheet.specs.Bytes.{fromBytes, twoLimit, Bytes}
+use Rattle.sheet.specs.Sheet.{Contents, placeBytes}
+use Rattle.sheet.specs.Inner.{rising, headBytes}
+use Rattle.sheet.specs.Reading.{item, fault, onward, one, anyTwo, numbers, decode, recordSize, kitIn, hasTag, newKit, Run, stop, also, unless, records, whole}
+use Rattle.sheet.specs.declared.Sheet.{Sheet}
+use Rattle.sheet.proofs.Accepted.{records-back}
+use Rattle.sheet.proofs.Laws.{new-kits-rise}
+use Rattle.sheet.proofs.Written.{any-good}
+use Rattle.sheet_judge.specs.Inner.{judgedOf, sheetOf, behindNumbers, Numbered, recordAt, listAt, WholeAt, Tags, Latest, growth}
+use Rattle.sheet_judge.specs.declared.Judged.the-variants.{Fault, Good}
+use Rattle.sheet_judge.proofs.Front.{one-ok, two-short, two-ok}
+use Rattle.sheet_judge.proofs.Growth.{growth-beginnings, lastRow, growth-last, last-row}
+use Rattle.sheet_judge.proofs.Records.{size-at, tag-is, row-is}
+
+-- kits read before those of a run
+unfoldable pub prepend : List Kit → Run → Run
+prepend [] r = r
+prepend (k ∷ ks) r = also k (prepend ks r)
+
+prepend-last : (ks : List Kit) (k : Kit) (r : Run) → prepend (ks ++ (k ∷ [])) r ≡ prepend ks (also k r)
+unfolding prepend
+prepend-last [] k r = refl
+prepend-last (x ∷ ks) k r = ap (also x) (prepend-last ks k r)
+
+prepend-stop : (ks : List Kit) (m : ℕ) (bs : List ℕ) (o : ℕ) →
+    prepend ks (stop m bs o) ≡ record { kits = ks; rest = bs; offset = o; missing = m }
+unfolding prepend
+prepend-stop [] m bs o = refl
+prepend-stop (x ∷ ks) m bs o = ap (also x) (prepend-stop ks m bs o)
+
+records-none : (parts : ℕ) (seen : List Kit) (bs : List ℕ) (o : ℕ) → records placeBytes 0 parts seen bs o ≡ stop 0 bs o
+unfolding records
+records-none parts seen bs o = refl
+
+records-faulty : (m parts : ℕ) (seen : List Kit) (bs : List ℕ) (o : ℕ) →
+    one (recordSize placeBytes) (newKit placeBytes parts seen) bs o ≡ fault o →
+    records placeBytes (suc m) parts seen bs o ≡ stop (suc m) bs o
+unfolding records unless
+records-faulty m parts seen bs o e = rw e
+
+records-suc : (m parts : ℕ) (seen : List Kit) (bs b rest : List ℕ) (o p : ℕ) →
+    one (recordSize placeBytes) (newKit placeBytes parts seen) bs o ≡ item b rest p →
+    records placeBytes (suc m) parts seen bs o ≡ also (kitIn placeBytes b) (records placeBytes m parts (kitIn placeBytes b ∷ seen) rest p)
+unfolding records unless
+records-suc m parts seen bs b rest o p e = rw e
+
+-- k of n records are read, and the next starts at a place
+pub record Judging (s : List ℕ) (from parts n : ℕ) (marks : List ℕ) (prev : Row) (nodes at k : ℕ) : Type 0 where
+  pub pre : List Kit
+  pub seen : List Kit
+  pub goes : records placeBytes n parts [] (drop from s) from ≡ prepend pre (records placeBytes (n - k) parts seen (drop at s) at)
+  pub tags : Tags marks seen
+  pub latest : Latest prev k seen
+  pub many : length pre ≡ k
+  pub count : nodes ≡ 1 + growth [] pre
+  pub last : lastRow [] pre ≡ unitsIn prev
+  pub short : prev .len ≤ mostUnits
+  pub inside : at ≤ length s
+  pub few : nodes ≤ 1 + 64 * k
+  pub board : length marks ≡ twoLimit
+
+no-tags : (marks : List ℕ) → ((t : ℕ) → getD marks t 0 ≡ 0) → Tags marks []
+unfolding anyb
+no-tags marks z t h = rw (eq-eqb (getD marks t 0) 0 (z t))
+
+none-latest : (prev : Row) → Latest prev 0 []
+unfolding Latest
+none-latest prev = refl
+
+none-grown : growth [] [] ≡ 0
+unfolding growth
+none-grown = refl
+
+none-last : lastRow [] [] ≡ []
+unfolding lastRow
+none-last = refl
+
+prepend-none : (r : Run) → prepend [] r ≡ r
+unfolding prepend
+prepend-none r = refl
+
+pub judging-start : (s : List ℕ) (from parts n : ℕ) (marks : List ℕ) (prev : Row) → from ≤ length s → ((t : ℕ) → getD marks t 0 ≡ 0) →
+    length marks ≡ twoLimit → unitsIn prev ≡ [] → prev .len ≡ 0 → Judging s from parts n marks prev 1 from 0
+judging-start s from parts n marks prev h z b u e = record {
+  pre = [];
+  seen = [];
+  goes = rw sub-zero (sym (prepend-none (records placeBytes n parts [] (drop from s) from)));
+  tags = no-tags marks z;
+  latest = none-latest prev;
+  many = refl;
+  count = omega (arith, none-grown);
+  last = none-last ∙ sym u;
+  short = omega arith;
+  inside = h;
+  few = omega arith;
+  board = b;
+}
+
+tag-one : (t : ℕ) (k : Kit) (seen : List Kit) → anyb (hasTag t) (k ∷ seen) ≡ (eqb t (k .tag) || anyb (hasTag t) seen)
+unfolding anyb hasTag
+tag-one t k seen = refl
+
+new-latest : (row : Row) (k : ℕ) (x : Kit) (seen : List Kit) → unitsIn row ≡ x .row → Latest row (k + 1) (x ∷ seen)
+unfolding Latest
+new-latest row k x seen e = (omega arith, e)
+
+module _ {s : List ℕ} {from parts n : ℕ} {marks : List ℕ} {prev : Row} {nodes at k : ℕ}
+    (J : Judging s from parts n marks prev nodes at k) where
+  -- a record at fault
+  pub judging-fault : k < n → one (recordSize placeBytes) (newKit placeBytes parts (J .seen)) (drop at s) at ≡ fault at →
+      (ps : List (List ℕ)) → Fault at ≡ judgedOf (whole ps (records placeBytes n parts [] (drop from s) from))
+  unfolding judgedOf whole
+  judging-fault h e ps =
+      let z : n - k ≡ suc (n - (k + 1)) = omega arith in
+      let r : records placeBytes n parts [] (drop from s)
+      from ≡ record { kits = J .pre; rest = drop at s; offset = at; missing = suc (n - (k + 1)) } = J .goes ∙ rw
+      (z, records-faulty (n - (k + 1)) parts (J .seen) (drop at s) at e) (prepend-stop (J .pre) (suc (n - (k + 1))) (drop at s) at) in
+      let w : eqb (suc (n - (k + 1))) 0 ≡ false = ne-eqb (suc (n - (k + 1))) 0 (λ q. omega arith) in
+      rw (r, w)
+
+  all-read : n ≡ k → records placeBytes n parts [] (drop from s) from ≡ record { kits = J .pre; rest = drop at s; offset = at; missing = 0 }
+  all-read e =
+      let z : n - k ≡ 0 = omega arith in
+      J .goes ∙ rw (z, records-none parts (J .seen) (drop at s) at) (prepend-stop (J .pre) 0 (drop at s) at)
+
+  -- bytes remain
+  pub judging-over : n ≡ k → at < length s → (ps : List (List ℕ)) →
+      Fault at ≡ judgedOf (whole ps (records placeBytes n parts [] (drop from s) from))
+  unfolding judgedOf whole
+  judging-over e h ps =
+      let r = all-read e in
+      let w : eqb (length (drop at s)) 0 ≡ false = ne-eqb (length (drop at s)) 0 (λ q. omega (arith, length-drop at s)) in
+      rw (r, w)
+
+  -- a faultless sheet
+  pub judging-good : Bytes (drop from s) → n ≡ k → length s ≤ at → (sheet : Sheet) → sheet .parts ≡ parts → sheet .kits ≡ n →
+      (ps : List (List ℕ)) → length ps ≡ sheet .parts →
+      Good sheet nodes ≡ judgedOf (whole ps (records placeBytes n parts [] (drop from s) from))
+  unfolding judgedOf whole
+  judging-good b e h sheet p q ps l =
+      let r = all-read e in
+      let d : drop at s ≡ [] = drop-of-length-le s h in
+      let R = records-back placeBytes n parts [] (drop from s) from b in
+      let i : rising (J .pre) ≡ true = new-kits-rise (rw r at (R .news)) in
+      let g = growth-beginnings (J .pre) i in
+      let c : nodes ≡ 1 + length (allBeginnings (J .pre)) = omega (arith, J .count) in
+      rw (r, d) (ap (λ (x : Sheet). Good x nodes) (same-sheet sheet (record { parts = ps; kits = J .pre }) (sym l) (q ∙ e ∙ sym (J .many)))
+      ∙ ap (Good (sheetOf (record { parts = ps; kits = J .pre }))) c)
+    where
+      same-sheet : (x : Sheet) (c : Contents) → x .parts ≡ length (c .parts) → x .kits ≡ length (c .kits) → x ≡ sheetOf c
+      same-sheet x c e f = λ t. record { parts = e t; kits = f t }
+
+  -- one record more
+  module _ (h : k < n) (w : WholeAt s at) (good : newKit placeBytes parts (J .seen) (recordAt s at) ≡ true) (row : Row)
+      (is-row : row ≡ fixedRow (units (listAt s at))) (fits : length (units (listAt s at)) ≤ mostUnits)
+      (t : ℕ) (tag-read : t ≡ fromBytes (take 2 (drop at s))) (small : t < twoLimit) (g : ℕ)
+      (alike : g ≡ agreed (unitsIn prev) (unitsIn row)) (r : ℕ) (ends : r ≡ at + recordSize placeBytes (drop at s)) where
+    abbrev kit : Kit
+    kit = kitIn placeBytes (recordAt s at)
+
+    row-read : unitsIn row ≡ kit .row
+    row-read = rw is-row (row-back (units (listAt s at))) ∙ sym (row-is s at w)
+
+    tag-here : kit .tag ≡ t
+    tag-here = tag-is s at w ∙ sym tag-read
+
+    mark-tag : Tags (set marks t 1) (kit ∷ J .seen)
+    mark-tag u v = tag-one u kit (J .seen) ∙ rw tag-here (go (eqb u t) refl)
+      where
+        go : (x : Bool) → eqb u t ≡ x → (x || anyb (hasTag u) (J .seen)) ≡ not (isZero (getD (set marks t 1) u 0))
+        go true e =
+            let p : u ≡ t = eqb-true u t e in
+            let q : getD (set marks t 1) u 0 ≡ 1 = rw p (getD-set-same marks t 1 0 (omega (arith, J .board))) in
+            rw q
+        go false e = rw (getD-set-other marks t u 1 0 (eqb-false u t e)) (J .tags u v)
+
+    pub judging-on : Judging s from parts n (set marks t 1) row (nodes + (row .len - g)) r (k + 1)
+    judging-on =
+        let z : n - k ≡ suc (n - (k + 1)) = omega arith in
+        let i = one-ok (recordSize placeBytes) (newKit placeBytes parts (J .seen)) (drop at s) at
+        (omega (arith, size-at s at, length-drop at s)) good in
+        let d : drop (recordSize placeBytes (drop at s)) (drop at s) ≡ drop r s = drop-drop (recordSize placeBytes (drop at s)) at s ∙ ap
+        (λ (x : ℕ). drop x s) (sym ends) in
+        let m = records-suc (n - (k + 1)) parts (J .seen) (drop at s) (recordAt s at) (drop (recordSize placeBytes (drop at s)) (drop at s))
+        at (at + recordSize placeBytes (drop at s)) i in
+        let b = rw (d, ← ends) at m in
+        let len : row .len ≡ length (kit .row) = rw is-row (sym (ap length (row-is s at w))) in
+        let a : agreed (lastRow [] (J .pre)) (kit .row) ≡ g = rw (J .last, ← row-read) (sym alike) in
+        record {
+          pre = J .pre ++ (kit ∷ []);
+          seen = kit ∷ J .seen;
+          goes =
+              J .goes ∙ rw (z, b) (sym (prepend-last (J .pre) kit (records placeBytes (n - (k + 1)) parts (kit ∷ J .seen) (drop r s) r)));
+          tags = mark-tag;
+          latest = new-latest row k kit (J .seen) row-read;
+          many = length-append (J .pre) (kit ∷ []) ∙ (omega (arith, J .many));
+          count = omega (arith, J .count, growth-last [] (J .pre) kit);
+          last = last-row [] (J .pre) kit ∙ sym row-read;
+          short = rw is-row fits;
+          inside = omega (arith, size-at s at);
+          few = let q : row .len ≤ 64 = rw is-row fits in omega (arith, J .few);
+          board = length-set marks t 1 ∙ J .board;
+        }
+
+-- the kit count, and what follows it
+module _ (s : List ℕ) (at : ℕ) (ps : List (List ℕ)) where
+  pub count-short : at ≤ length s → length s - at < 2 → Fault at ≡ judgedOf (behindNumbers ps (drop at s) at)
+  unfolding judgedOf behindNumbers onward
+  count-short h k = let e = two-short anyTwo s at h k in rw e
+
+  pub count-read : (n m : ℕ) → at + 2 ≤ length s → n ≡ length ps → m ≡ fromBytes (take 2 (drop at s)) →
+      judgedOf (whole ps (records placeBytes m n [] (drop (at + 2) s) (at + 2))) ≡ judgedOf (behindNumbers ps (drop at s) at)
+  unfolding behindNumbers onward
+  count-read n m h e f = let i = two-ok anyTwo s at h (any-good (take 2 (drop at s))) in rw (i, e, f)
+
+-- the numbers, and what follows them
+pub numbers-fault : (s : List ℕ) (n o : ℕ) → numbers n [] (drop headBytes s) headBytes ≡ fault o →
+    Fault o ≡ judgedOf (onward (numbers n [] (drop headBytes s) headBytes) behindNumbers)
+unfolding judgedOf onward
+numbers-fault s n o e = rw e
+
+pub numbers-read : (s : List ℕ) (n at : ℕ) (N : Numbered s n at) →
+    judgedOf (behindNumbers (N .ns) (drop at s) at) ≡ judgedOf (onward (numbers n [] (drop headBytes s) headBytes) behindNumbers)
+unfolding onward
+numbers-read s n at N = let e = N .goes in rw e
+
+pub judged-fault : (s : List ℕ) (o : ℕ) → decode s ≡ fault o → Fault o ≡ judgedOf (decode s)
+unfolding judgedOf
+judged-fault s o e = rw e

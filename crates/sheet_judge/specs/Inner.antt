@@ -1,0 +1,109 @@
+-- Inner: no promise of the house rests on what stands here; inner contracts and proofs speak by it.
+-- What the judge of a sheet answers, and what each of its functions says of the sheet from a place on.
+use mathlib.Core.Path.{_≡_}
+use mathlib.Core.Bool.{Bool, _&&_, cond, not}
+use mathlib.Core.List.{List, [], _∷_}
+use Prim.Native.Nat.{ℕ, zero, suc, _+_, _-_, _*_, _≤_, _<_}
+use lib.ListN.{length, take, drop, getD}
+use lib.Dec.{leb}
+use Rattle.ground.specs.Limits.{mostParts}
+use Rattle.ground.specs.Lists.{anyb, isZero}
+use Rattle.kits.specs.Kits.{goodList, units, mostUnits}
+use Rattle.kits.specs.Inner.{agreed, unitsIn}
+use Rattle.kits.specs.declared.Row.{Row}
+use Rattle.nodes.specs.Held.{Kit}
+use Rattle.sheet.specs.Bytes.{fromBytes, twoLimit}
+use Rattle.sheet.specs.Sheet.{Contents, placeBytes, nodesNeeded}
+use Rattle.sheet.specs.Inner.{headBytes}
+use Rattle.sheet.specs.Reading.{Item, item, fault, Reading, onward, one, bytes, anyTwo, numbers, recordSize, hasTag, records, whole, decode}
+use Rattle.sheet.specs.declared.Sheet.{Sheet}
+use Rattle.sheet_judge.specs.declared.Judged.{Judged}
+use Rattle.sheet_judge.specs.declared.Judged.the-variants.{Fault, Good}
+use Rattle.sheet_judge.specs.declared.Read.{Read}
+use Rattle.sheet_judge.specs.declared.Read.the-variants as read
+
+-- a sheet's counts
+abbrev pub sheetOf : Contents → Sheet
+sheetOf c = record { parts = length (c .parts); kits = length (c .kits) }
+
+-- the offset of the first faulty item; or the counts of a faultless sheet, and the nodes that it needs
+unfoldable pub judgedOf : Item Contents → Judged
+judgedOf (item c bs o) = Good (sheetOf c) (nodesNeeded c)
+judgedOf (fault o) = Fault o
+
+-- behind the numbers ps: kit count, kit records, the end
+unfoldable pub behindNumbers : List (List ℕ) → Reading Contents
+behindNumbers ps bs o = onward (one (bytes 2) anyTwo bs o) (λ k rest p. whole ps (records placeBytes (fromBytes k) (length ps) [] rest p))
+
+-- mark, version and part count were read: the part count, or the first fault
+pub record Headed (s : List ℕ) (n : ℕ) : Type 0 where
+  pub inside : headBytes ≤ length s
+  pub few : n ≤ mostParts
+  pub goes : decode s ≡ onward (numbers n [] (drop headBytes s) headBytes) behindNumbers
+
+abbrev pub headSays : List ℕ → Read → Type 0
+headSays s (read.Fault o) = decode s ≡ fault o
+headSays s (read.Done n) = Headed s n
+
+-- n numbers were read: where they end, or the first fault
+pub record Numbered (s : List ℕ) (n at : ℕ) : Type 0 where
+  pub ns : List (List ℕ)
+  pub many : length ns ≡ n
+  pub inside : at ≤ length s
+  pub goes : numbers n [] (drop headBytes s) headBytes ≡ item ns (drop at s) at
+
+abbrev pub numbersSay : List ℕ → ℕ → Read → Type 0
+numbersSay s n (read.Fault o) = numbers n [] (drop headBytes s) headBytes ≡ fault o
+numbersSay s n (read.Done at) = Numbered s n at
+
+-- the number that stands at a place, and where it ends
+abbrev pub numberHere : List ℕ → ℕ → List ℕ
+numberHere s j = take (getD s j 0) (drop (j + 1) s)
+
+abbrev pub nextPlace : List ℕ → ℕ → ℕ
+nextPlace s j = j + 1 + getD s j 0
+
+-- the first k numbers that stand from a place on, and where they end
+unfoldable pub numbersAt : List ℕ → ℕ → ℕ → List (List ℕ)
+numbersAt s j zero = []
+numbersAt s j (suc k) = numberHere s j ∷ numbersAt s (nextPlace s j) k
+
+unfoldable pub endAt : List ℕ → ℕ → ℕ → ℕ
+endAt s j zero = j
+endAt s j (suc k) = endAt s (nextPlace s j) k
+
+-- where an item ends; where it is at fault, where it starts
+unfoldable pub placeOf : Item (List ℕ) → ℕ
+placeOf (item a bs o) = o
+placeOf (fault o) = o
+
+-- a kit record at a place: its bytes, where it ends (where it is cut short, where it starts), and the list of its lines
+abbrev pub recordAt : List ℕ → ℕ → List ℕ
+recordAt s at = take (recordSize placeBytes (drop at s)) (drop at s)
+
+unfoldable pub recordEnd : List ℕ → ℕ → ℕ
+recordEnd s at = cond (leb (recordSize placeBytes (drop at s)) (length (drop at s))) (at + recordSize placeBytes (drop at s)) at
+
+abbrev pub listAt : List ℕ → ℕ → List ℕ
+listAt s at = take (getD s (at + 2) 0 * 2) (drop (at + 3) s)
+
+abbrev pub WholeAt : List ℕ → ℕ → Type 0
+WholeAt s at = at + 3 + getD s (at + 2) 0 * 2 ≤ length s
+
+-- its lines obey the rules, with n parts
+unfoldable pub goodLines : ℕ → List ℕ → Bool
+goodLines n l = goodList n l && leb (length (units l)) mostUnits
+
+-- the marks of the tags seen: not 0 where a kit bears the tag
+abbrev pub Tags : List ℕ → List Kit → Type 0
+Tags marks seen = (t : ℕ) → t < twoLimit → anyb (hasTag t) seen ≡ not (isZero (getD marks t 0))
+
+-- prev is the row of the latest of k kits seen
+unfoldable pub Latest : Row → ℕ → List Kit → Type 0
+Latest prev k [] = k ≡ 0
+Latest prev k (x ∷ seen) = (0 < k) × (unitsIn prev ≡ x .row)
+
+-- how many nodes kits in listing order add, behind a row: each what it does not share with the one before
+unfoldable pub growth : List ℕ → List Kit → ℕ
+growth r [] = 0
+growth r (k ∷ ks) = (length (k .row) - agreed r (k .row)) + growth (k .row) ks

@@ -1,0 +1,120 @@
+-- The loop over the kit records: what is known behind k of them, and the next insertion.
+use mathlib.Core.Path.{_≡_, refl, ap, sym, subst, _∙_}
+use mathlib.Core.List.{List, [], _∷_, List·Memᴰ·head}
+use Prim.Native.Nat.{ℕ, zero, suc, _+_, _-_, _≤_, _<_}
+use native.Mathlib.Nat.{sub-zero}
+use native.Mathlib.Omega.{arith}
+use lib.ListN.{length, take, drop}
+use Rattle.ground.specs.Laid.{zeroed}
+use Rattle.ground.specs.Calls.{Reply, Promise}
+use Rattle.kits.specs.Kits.{mostUnits, mostPlace, units}
+use Rattle.kits.specs.Inner.{GoodRow, unitsIn, fixedRow}
+use Rattle.kits.specs.declared.Row.{Row}
+use Rattle.kits.proofs.Rows.{row-back}
+use Rattle.nodes.specs.Inner.{Sound}
+use Rattle.nodes.specs.Held.{Kit}
+use Rattle.nodes.proofs.Sorted.{every-mem}
+use Rattle.index_insert.specs.Enter.{enter, enterAll}
+use Rattle.index.specs.Inner.{insertingRow}
+use Rattle.index_counts.proofs.Filled.{Fit, Fillable, fill-next}
+use Rattle.sheet.specs.Bytes.{fromBytes}
+use Rattle.sheet.specs.Sheet.{placeBytes}
+use Rattle.sheet.specs.Reading.{recordSize, kitIn}
+use Rattle.sheet_judge.specs.Inner.{recordAt, recordEnd, listAt, WholeAt}
+use Rattle.sheet_judge.proofs.Records.{size-at, end-whole, tag-is, row-is}
+use Rattle.sheet_read.specs.Inner.{kitsRead, endRead, KitsStand}
+use Rattle.sheet_read.proofs.Listed.{kits-fillable, inserting-enters}
+
+module _ (s : List ℕ) where
+  kits-step : (at k m : ℕ) → k < m →
+      kitsRead s at (m - k) ≡ kitIn placeBytes (recordAt s at) ∷ kitsRead s (at + recordSize placeBytes (drop at s)) (m - (k + 1))
+  unfolding kitsRead
+  kits-step at k m h = let e : m - k ≡ suc (m - (k + 1)) = omega arith in rw e
+
+  kits-none : (at : ℕ) → kitsRead s at 0 ≡ []
+  unfolding kitsRead
+  kits-none at = refl
+
+  end-step : (at k m : ℕ) → k < m → endRead s at (m - k) ≡ endRead s (at + recordSize placeBytes (drop at s)) (m - (k + 1))
+  unfolding endRead
+  end-step at k m h = let e : m - k ≡ suc (m - (k + 1)) = omega arith in rw e
+
+  end-behind : (at m : ℕ) → at ≤ endRead s at m
+  unfolding endRead
+  end-behind at zero = omega arith
+  end-behind at (suc m) = omega (arith, end-behind (at + recordSize placeBytes (drop at s)) m)
+
+enter-none : (N : List ℕ) → enterAll N [] ≡ N
+unfolding enterAll
+enter-none N = refl
+
+enter-first : (N : List ℕ) (k : Kit) (ks : List Kit) → enterAll N (k ∷ ks) ≡ enterAll (enter N 0 (k .row) (k .tag)) ks
+unfolding enterAll
+enter-first N k ks = refl
+
+-- k of m records are entered, and the next starts at a place: the rest can be entered, and then the table is what all of them make of the
+-- table Z
+pub record Filling (s : List ℕ) (from m : ℕ) (Z nodes : List ℕ) (at k : ℕ) : Type 0 where
+  pub rest : Fillable mostPlace (kitsRead s from m) nodes (kitsRead s at (m - k))
+  pub goes : enterAll nodes (kitsRead s at (m - k)) ≡ enterAll Z (kitsRead s from m)
+  pub inside : endRead s at (m - k) ≤ length s
+
+pub filling-start : {s : List ℕ} {from m : ℕ} {N Z : List ℕ} → KitsStand s from m N → Z ≡ zeroed N → Filling s from m Z Z from 0
+filling-start {s} {from} {m} {N} {Z} K e = record {
+  rest =
+      rw (e, sub-zero) (kits-fillable (K .parts) mostPlace (kitsRead s from m) N (K .few) (K .good) (K .unlike) (K .rises) (K .fits)
+      (K .room));
+  goes = rw sub-zero;
+  inside = rw sub-zero (K .inside);
+}
+
+module _ {s : List ℕ} {from m : ℕ} {Z nodes : List ℕ} {at k : ℕ} (F : Filling s from m Z nodes at k) where
+  pub filling-end : m ≡ k → nodes ≡ enterAll Z (kitsRead s from m)
+  filling-end e =
+      let z : m - k ≡ 0 = omega arith in
+      let a : kitsRead s at (m - k) ≡ [] = rw z (kits-none s at) in
+      sym (enter-none nodes) ∙ ap (enterAll nodes) (sym a) ∙ F .goes
+
+  module _ (h : k < m) where
+    abbrev kit : Kit
+    kit = kitIn placeBytes (recordAt s at)
+
+    abbrev place : ℕ
+    place = at + recordSize placeBytes (drop at s)
+
+    next : Fillable mostPlace (kitsRead s from m) nodes (kit ∷ kitsRead s place (m - (k + 1)))
+    next = subst (Fillable mostPlace (kitsRead s from m) nodes) (kits-step s at k m h) (F .rest)
+
+    fit : Fit mostPlace kit
+    fit = every-mem (next .fit) (List·Memᴰ·head refl)
+
+    pub record-whole : WholeAt s at
+    record-whole = omega (arith, F .inside, end-step s at k m h, end-behind s place (m - (k + 1)), size-at s at)
+
+    pub units-short : length (units (listAt s at)) ≤ mostUnits
+    units-short = rw (← row-is s at record-whole) (fit .row .short)
+
+    on : Filling s from m Z (enter nodes 0 (kit .row) (kit .tag)) place (k + 1)
+    on = record {
+      rest = fill-next next;
+      goes = sym (enter-first nodes kit (kitsRead s place (m - (k + 1)))) ∙ ap (enterAll nodes) (sym (kits-step s at k m h)) ∙ F .goes;
+      inside = omega (arith, F .inside, end-step s at k m h);
+    }
+
+    -- the record's row and tag, as they are read
+    module _ (row : Row) (e : row ≡ fixedRow (units (listAt s at))) (t : ℕ) (f : t ≡ fromBytes (take 2 (drop at s))) where
+      is-row : unitsIn row ≡ kit .row
+      is-row = rw e (row-back (units (listAt s at))) ∙ sym (row-is s at record-whole)
+
+      is-tag : t ≡ kit .tag
+      is-tag = f ∙ sym (tag-is s at record-whole)
+
+      pub may-insert : Sound mostPlace nodes × ((row .len ≤ mostUnits) × (GoodRow mostPlace (unitsIn row) × (0 < t)))
+      may-insert = (F .rest .sound, (rw e units-short, (rw is-row (fit .row), rw is-tag (fit .some-tag))))
+
+      pub filling-on : (a : Reply) (M : List ℕ) → Promise (insertingRow (unitsIn row) t nodes) nodes a M → (r : ℕ) → r ≡ recordEnd s at →
+          Filling s from m Z M r (k + 1)
+      filling-on a M p r q =
+          let u : r ≡ place = q ∙ sym (end-whole s at record-whole) ∙ (omega (arith, size-at s at)) in
+          let v : M ≡ enter nodes 0 (kit .row) (kit .tag) = (rw (is-row, is-tag) at (p .lent)) ∙ inserting-enters next in
+          rw (u, v) on

@@ -1,0 +1,181 @@
+-- Contents that the format has room for: its tests, and the words in which the node table's laws speak of kits, say the same.
+use mathlib.Core.Path.{_≡_, refl, sym, ap, _∙_}
+use mathlib.Core.Bool.{true, false, not}
+use mathlib.Core.List.{List, [], _∷_, List·Memᴰ·not-nil, Memᴰ·cast}
+use Prim.Native.Nat.{ℕ, _+_, _≤_, _<_}
+use native.Mathlib.Omega.{arith}
+use lib.ListN.{length, length-replicate}
+use lib.Dec.{eqb}
+use borrow.Author.Tests.{leb-true, ltb-true, le-leb, lt-ltb, le-ltb, ne-eqb, not-true}
+use Rattle.ground.specs.Limits.{mostParts}
+use Rattle.ground.specs.Lists.{allb, anyb, every, distinct, eqList}
+use Rattle.ground.specs.Laid.{zeroed}
+use Rattle.ground.specs.Calls.{answer, decide, memory}
+use Rattle.ground.proofs.Calls.{leaves-done}
+use Rattle.ground.proofs.Laws.{and-left, and-right, and-both, every-at}
+use Rattle.kits.specs.Kits.{mostUnits, listOf, before, goodList}
+use Rattle.kits.specs.Inner.{GoodRow}
+use Rattle.kits.proofs.Order.{before-transitive}
+use Rattle.kits.proofs.Units.{good-row, units-back, row-list-good}
+use Rattle.register.specs.Number.{goodNumber}
+use Rattle.nodes.specs.Nodes.{size, nodesLength, freeNodes}
+use Rattle.nodes.specs.Held.{Kit, tagsOf, held, allBeginnings}
+use Rattle.nodes.proofs.Lists.{never}
+use Rattle.nodes.proofs.Fields.{length-sized}
+use Rattle.nodes.proofs.Sorted.{Every, Rising, none, also, ahead, every-mem, mem-every, every-map, every-map2, allb-mem, eqb-anyb}
+use Rattle.nodes.proofs.Listing.{Earlier, OtherTag, earlier-other, tags-mem, mem-tags}
+use Rattle.nodes.proofs.Empty.{zeros-sound, zeros-hold-nothing}
+use Rattle.index_insert.specs.Enter.{enter, lacks, enterAll}
+use Rattle.index.specs.Index.{entryRefusals}
+use Rattle.index.specs.Inner.{insertingRow}
+use Rattle.index.proofs.Kept.{Accepted}
+use Rattle.index_counts.proofs.Filled.{Fit, Apart, Fillable, acceptable, fill-next}
+use Rattle.sheet.specs.Bytes.{twoLimit}
+use Rattle.sheet.specs.Sheet.{Contents}
+use Rattle.sheet.specs.Inner.{goodKit, rising, fitsSheet}
+use Rattle.sheet.proofs.Fresh.{any-none}
+
+-- Contents that fit the format, sentence by sentence
+pub record Fits (c : Contents) : Type 0 where
+  pub few-parts : length (c .parts) ≤ mostParts
+  pub numbers-good : allb goodNumber (c .parts) ≡ true
+  pub numbers-once : distinct eqList (c .parts) ≡ true
+  pub few-kits : length (c .kits) < twoLimit
+  pub kits-good : allb (goodKit (length (c .parts))) (c .kits) ≡ true
+  pub tags-once : distinct eqb (tagsOf (c .kits)) ≡ true
+  pub kits-rise : rising (c .kits) ≡ true
+
+pub fitting-fits : (c : Contents) → fitsSheet c ≡ true → Fits c
+unfolding fitsSheet
+fitting-fits c h = record {
+  few-parts = leb-true (length (c .parts)) mostParts (every-at _ 0 h);
+  numbers-good = every-at _ 1 h;
+  numbers-once = every-at _ 2 h;
+  few-kits = ltb-true (length (c .kits)) twoLimit (every-at _ 3 h);
+  kits-good = every-at _ 4 h;
+  tags-once = every-at _ 5 h;
+  kits-rise = every-at _ 6 h;
+}
+
+pub fits-fitting : (c : Contents) → Fits c → fitsSheet c ≡ true
+unfolding fitsSheet every
+fits-fitting c f =
+    let a = le-leb (length (c .parts)) mostParts (f .few-parts) in
+    let b = f .numbers-good in
+    let d = f .numbers-once in
+    let e = lt-ltb (length (c .kits)) twoLimit (f .few-kits) in
+    let g = f .kits-good in
+    let h = f .tags-once in
+    let i = f .kits-rise in
+    rw (a, b, d, e, g, h, i)
+
+-- each kit before the next, and each before all that follow
+first-of : {R : Kit → Kit → Type 0} {k : Kit} {ks : List Kit} → Rising R (k ∷ ks) → Every (R k) ks
+first-of (ahead e s) = e
+
+pub rising-earlier : (ks : List Kit) → rising ks ≡ true → Rising Earlier ks
+unfolding rising
+rising-earlier [] h = none
+rising-earlier (k ∷ []) h = ahead none none
+rising-earlier (k ∷ l ∷ ks) h =
+    let b : before (k .row) (l .row) ≡ true = and-left (before (k .row) (l .row)) (rising (l ∷ ks)) h in
+    let s : Rising Earlier (l ∷ ks) = rising-earlier (l ∷ ks) (and-right (before (k .row) (l .row)) (rising (l ∷ ks)) h) in
+    ahead (also b (every-map (λ x e. before-transitive (k .row) (l .row) (x .row) b e) (first-of s))) s
+
+pub earlier-rising : {ks : List Kit} → Rising Earlier ks → rising ks ≡ true
+unfolding rising
+earlier-rising none = refl
+earlier-rising (ahead none s) = refl
+earlier-rising (ahead {x = k} (also {x = l} {xs = ks} b e) s) = and-both (before (k .row) (l .row)) (rising (l ∷ ks)) b (earlier-rising s)
+
+-- no tag twice
+pub tags-apart : (ks : List Kit) → distinct eqb (tagsOf ks) ≡ true → Rising OtherTag ks
+unfolding distinct tagsOf
+tags-apart [] h = none
+tags-apart (k ∷ ks) h =
+    let a : anyb (eqb (k .tag)) (tagsOf ks) ≡ false = not-true _
+    (and-left (not (anyb (eqb (k .tag)) (tagsOf ks))) (distinct eqb (tagsOf ks)) h) in
+    ahead (mem-every ks (λ y m q. never (sym (eqb-anyb (k .tag) (tagsOf ks) (Memᴰ·cast q (mem-tags y ks m))) ∙ a)))
+    (tags-apart ks (and-right (not (anyb (eqb (k .tag)) (tagsOf ks))) (distinct eqb (tagsOf ks)) h))
+
+pub apart-tags : {ks : List Kit} → Rising OtherTag ks → distinct eqb (tagsOf ks) ≡ true
+unfolding distinct tagsOf
+apart-tags none = refl
+apart-tags (ahead {x = k} {xs = ks} e s) =
+    and-both (not (anyb (eqb (k .tag)) (tagsOf ks))) (distinct eqb (tagsOf ks))
+    (ap not (any-none (eqb (k .tag)) (tagsOf ks)
+    (λ t m. let o = tags-mem t ks m in ne-eqb (k .tag) t (λ q. every-mem e (o .1) (q ∙ sym (o .2))))))
+    (apart-tags s)
+
+-- a good kit may be entered
+pub kit-fits : (n p : ℕ) (k : Kit) → n ≤ p → goodKit n k ≡ true → Fit p k
+unfolding goodKit
+kit-fits n p k h g =
+    let u = units-back (k .row) in
+    let l : goodList n (listOf (k .row)) ≡ true = every-at _ 2 g in
+    let s : length (k .row) ≤ mostUnits = leb-true (length (k .row)) mostUnits (every-at _ 3 g) in
+    let r : GoodRow n (k .row) = rw u at (good-row n (listOf (k .row)) l (rw u s)) in
+    record {
+      row =
+          record {
+            short = r .short;
+            rises = r .rises;
+            some-place = r .some-place;
+            a-place = λ i v. omega (arith, r .a-place i v);
+            few =
+                r .few;
+          };
+      some-tag = leb-true 1 (k .tag) (every-at _ 0 g);
+    }
+
+pub fits-kit : (n : ℕ) (k : Kit) → Fit n k → k .tag < twoLimit → goodKit n k ≡ true
+unfolding goodKit every
+fits-kit n k f h =
+    let a = le-leb 1 (k .tag) (f .some-tag) in
+    let b = lt-ltb (k .tag) twoLimit h in
+    let c = row-list-good n (k .row) (f .row) in
+    let d = le-leb (length (k .row)) mostUnits (f .row .short) in
+    rw (a, b, c, d)
+
+-- two kits in listing order with different tags can be held together
+both-apart : {ks : List Kit} → Rising Earlier ks → Rising OtherTag ks → Rising Apart ks
+both-apart none none = none
+both-apart (ahead {x = k} d s) (ahead e t) =
+    ahead (every-map2 (λ y a b. record { rows = earlier-other k y a; tags = b }) d e) (both-apart s t)
+
+-- Kits that the format has room for can be entered one after the other in an emptied table that has nodes for them
+pub kits-fillable : (n p : ℕ) (ks : List Kit) (N : List ℕ) → n ≤ p → allb (goodKit n) ks ≡ true → distinct eqb (tagsOf ks) ≡ true →
+    rising ks ≡ true → nodesLength N ≡ true → 1 + length (allBeginnings ks) ≤ size N → Fillable p ks (zeroed N) ks
+kits-fillable n p ks N h g d r l room =
+    let e : held (zeroed N) ≡ [] = zeros-hold-nothing N l in
+    record {
+      sound = zeros-sound N p (length-sized N l);
+      fit = mem-every ks (λ k m. kit-fits n p k h (allb-mem (goodKit n) ks k g m));
+      differ = both-apart (rising-earlier ks r) (tags-apart ks d);
+      new = λ a b m. absurd (List·Memᴰ·not-nil (rw e at m));
+      held-in = λ k m. absurd (List·Memᴰ·not-nil (rw e at m));
+      all-in = λ k m. m;
+      room = omega (arith, length-replicate {A = ℕ} (length N) 0);
+    }
+
+-- The next of them is inserted, so that the table is what it enters
+pub inserting-enters : {p : ℕ} {T : List Kit} {N : List ℕ} {k : Kit} {ks : List Kit} → Fillable p T N (k ∷ ks) →
+    memory (insertingRow (k .row) (k .tag) N) N ≡ enter N 0 (k .row) (k .tag)
+unfolding insertingRow entryRefusals answer decide memory
+inserting-enters {N = N} {k = k} F =
+    let A : Accepted (k .row) (k .tag) N = acceptable F in
+    let f = A .fresh in
+    let b = A .unborne in
+    let r = le-ltb (length (freeNodes N)) (lacks N 0 (k .row)) (A .room) in
+    leaves-done (answer (insertingRow (k .row) (k .tag) N)) (lacks N 0 (k .row)) N (enter N 0 (k .row) (k .tag)) (rw (f, b, r))
+
+-- kits inserted one after the other
+unfoldable pub insertAll : List ℕ → List Kit → List ℕ
+insertAll N [] = N
+insertAll N (k ∷ ks) = insertAll (memory (insertingRow (k .row) (k .tag) N) N) ks
+
+pub inserted-in-order : {p : ℕ} {T : List Kit} (ks : List Kit) (N : List ℕ) → Fillable p T N ks → enterAll N ks ≡ insertAll N ks
+unfolding enterAll insertAll
+inserted-in-order [] N F = refl
+inserted-in-order (k ∷ ks) N F =
+    inserted-in-order ks (enter N 0 (k .row) (k .tag)) (fill-next F) ∙ ap (λ (M : List ℕ). insertAll M ks) (sym (inserting-enters F))

@@ -1,0 +1,66 @@
+-- Inner: no promise of the house rests on what stands here; inner contracts and proofs speak by it.
+-- Reading a sheet into tables of right lengths, and what stands in a sheet from a place on.
+use mathlib.Core.Path.{_≡_}
+use mathlib.Core.Bool.{true}
+use mathlib.Core.List.{List, [], _∷_}
+use Prim.Native.Nat.{ℕ, zero, suc, _+_, _≤_, _<_}
+use lib.ListN.{length, drop, getD}
+use lib.Dec.{eqb}
+use Rattle.ground.specs.Lists.{allb, distinct}
+use Rattle.ground.specs.Limits.{mostParts}
+use Rattle.ground.specs.Calls.{Plan, plan, Promise}
+use Rattle.answers.specs.declared.Answer.{Answer}
+use Rattle.answers.specs.Answers.{reply}
+use Rattle.register.specs.Number.{longestNumber}
+use Rattle.register.specs.Register.{slotCount, registerLength}
+use Rattle.nodes.specs.Nodes.{size, nodesLength}
+use Rattle.nodes.specs.Held.{Kit, tagsOf, allBeginnings}
+use Rattle.sheet.specs.Sheet.{placeBytes}
+use Rattle.sheet.specs.Inner.{goodKit, rising, headBytes}
+use Rattle.sheet.specs.Reading.{decode, said, recordSize, kitIn}
+use Rattle.sheet.specs.Calls.{sheetRefusals}
+use Rattle.sheet_judge.specs.Inner.{nextPlace, endAt, recordAt}
+use Rattle.ground.specs.Tables.{Tables}
+use Rattle.sheet_read.specs.Filling.{filling}
+
+-- 13, then 12; "kits read"
+unfoldable pub readingInto : List ℕ → Tables → Plan Tables
+readingInto s T =
+    plan (sheetRefusals s (slotCount (T .register)) (size (T .nodes))) (length (said (decode s) .kits)) (filling (said (decode s)) T)
+
+-- of a sheet and the tables before: the answer, and the tables after
+abbrev pub ReadPromise : List ℕ → Tables → Answer → Tables → Type 0
+ReadPromise s T r M = Promise (readingInto s T) T (reply r) M
+
+-- the m kits whose records stand from a place on, and where they end
+unfoldable pub kitsRead : List ℕ → ℕ → ℕ → List Kit
+kitsRead s at zero = []
+kitsRead s at (suc m) = kitIn placeBytes (recordAt s at) ∷ kitsRead s (at + recordSize placeBytes (drop at s)) m
+
+unfoldable pub endRead : List ℕ → ℕ → ℕ → ℕ
+endRead s at zero = at
+endRead s at (suc m) = endRead s (at + recordSize placeBytes (drop at s)) m
+
+-- a number stands in the sheet s at a place, and a register has a slot k
+pub record NumberStands (s : List ℕ) (at k : ℕ) (R : List ℕ) : Type 0 where
+  pub inside : nextPlace s at ≤ length s
+  pub short : getD s at 0 ≤ longestNumber
+  pub slot : k < slotCount R
+
+-- n numbers stand in the sheet s, behind its head, and a register has room for them
+pub record NumbersStand (s : List ℕ) (n : ℕ) (R : List ℕ) : Type 0 where
+  pub fits : registerLength R ≡ true
+  pub slots : n ≤ slotCount R
+  pub inside : endAt s headBytes n ≤ length s
+  pub short : (k : ℕ) → k < n → getD s (endAt s headBytes k) 0 ≤ longestNumber
+
+-- m good kit records stand in the sheet s from a place on, and a node table has room for them
+pub record KitsStand (s : List ℕ) (at m : ℕ) (N : List ℕ) : Type 0 where
+  pub parts : ℕ
+  pub few : parts ≤ mostParts
+  pub inside : endRead s at m ≤ length s
+  pub good : allb (goodKit parts) (kitsRead s at m) ≡ true
+  pub unlike : distinct eqb (tagsOf (kitsRead s at m)) ≡ true
+  pub rises : rising (kitsRead s at m) ≡ true
+  pub fits : nodesLength N ≡ true
+  pub room : 1 + length (allBeginnings (kitsRead s at m)) ≤ size N

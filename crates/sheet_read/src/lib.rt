@@ -1,0 +1,110 @@
+// Document 01, "Read a sheet": a sheet that the judge finds faultless fills both tables, if they have room. The whole register and the whole
+// node table are written.
+ghost use mathlib.Core.Path.{_≡_};
+ghost use mathlib.Core.Bool.{true};
+ghost use Prim.Native.Nat.{_+_, _*_};
+ghost use Rattle.ground.specs.Laid.{laid, zeroed};
+ghost use Rattle.register.specs.Register.{slotBytes, slotCount, registerLength, registerOf};
+ghost use Rattle.nodes.specs.Nodes.{nodesLength};
+ghost use Rattle.index_insert.specs.Enter.{enterAll};
+ghost use Rattle.sheet.specs.Sheet.{numberItem};
+ghost use Rattle.sheet.specs.Inner.{headBytes};
+ghost use Rattle.sheet.specs.Reading.{decode};
+ghost use Rattle.sheet_judge.specs.Inner.{judgedOf, numberHere, nextPlace, numbersAt, endAt};
+ghost use Rattle.sheet_judge.specs.declared.Judged.the-variants.{Good};
+ghost use Rattle.ground.specs.Tables.{tables};
+ghost use Rattle.sheet_read.specs.Inner.{ReadPromise, kitsRead, NumberStands, NumbersStand, KitsStand};
+use answers::Answer;
+use ground::clear;
+use ground::copy_in;
+use ground::wide8;
+use ground::wide16;
+use index::insert;
+use nodes::clear_nodes;
+use nodes::node_count;
+use register::SLOT_BYTES;
+use register::count_slots;
+use sheet::Sheet;
+use sheet_judge::Judged;
+use sheet_judge::judge;
+use sheet_judge::record_end;
+use sheet_judge::row_in;
+use sheet_judge::two_at;
+
+// Sets the number that stands at a place of the sheet, with its length, into slot k: where it ends.
+fn enter_number(reg: &mut [u8], s: &[u8], at: usize, k: usize) -> usize
+    requires { ⌜ NumberStands (now s) at k (now reg) ⌝ }
+    ensures { λ r. ⌜ r ≡ nextPlace (now (s .entry)) at ⌝ ∗ ⌜ now (reg .exit) ≡ laid (now (reg .entry)) (k * slotBytes) (numberItem (numberHere (now (s .entry)) at)) ⌝ }
+{
+    let end = at + 1 + wide8(s[at]);
+    copy_in(reg, k * SLOT_BYTES, &s[at..end]);
+    end
+}
+
+// Empties the register and fills it with the n numbers of the sheet: where they end.
+fn fill_register(reg: &mut [u8], s: &[u8], n: usize) -> usize
+    requires { ⌜ NumbersStand (now s) n (now reg) ⌝ }
+    ensures { λ r. ⌜ r ≡ endAt (now (s .entry)) headBytes n ⌝ ∗ ⌜ now (reg .exit) ≡ registerOf (slotCount (now (reg .entry))) (numbersAt (now (s .entry)) headBytes n) ⌝ }
+{
+    clear(reg);
+    let mut at = Sheet::HEAD;
+    let mut k = 0;
+    while k < n {
+        at = enter_number(reg, s, at, k);
+        k += 1;
+    }
+    at
+}
+
+// Empties the node table and enters the m kits whose records stand from a place on, in sheet order.
+fn fill_nodes(nodes: &mut [u16], s: &[u8], from: usize, m: usize)
+    requires { ⌜ KitsStand (now s) from m (now nodes) ⌝ }
+    ensures { λ _. ⌜ now (nodes .exit) ≡ enterAll (zeroed (now (nodes .entry))) (kitsRead (now (s .entry)) from m) ⌝ }
+{
+    clear_nodes(nodes);
+    let mut at = from;
+    let mut k = 0;
+    while k < m {
+        insert(nodes, row_in(s, at), two_at(s, at));
+        at = record_end(s, at);
+        k += 1;
+    }
+}
+
+// Empties both tables and fills them with n parts and m kits of a sheet.
+pub fn fill(reg: &mut [u8], nodes: &mut [u16], s: &[u8], n: usize, m: usize)
+    requires { ⌜ NumbersStand (now s) n (now reg) ⌝ ∗ ⌜ KitsStand (now s) (endAt (now s) headBytes n + 2) m (now nodes) ⌝ }
+    ensures { λ _. ⌜ (now (reg .exit) ≡ registerOf (slotCount (now (reg .entry))) (numbersAt (now (s .entry)) headBytes n)) ×
+        (now (nodes .exit) ≡ enterAll (zeroed (now (nodes .entry))) (kitsRead (now (s .entry)) (endAt (now (s .entry)) headBytes n + 2) m)) ⌝ }
+{
+    let at = fill_register(reg, s, n);
+    fill_nodes(nodes, s, at + 2, m);
+}
+
+// A faultless sheet: 12, or both tables filled.
+fn take_in(reg: &mut [u8], nodes: &mut [u16], s: &[u8], sheet: Sheet, need: usize) -> Answer
+    requires { ⌜ registerLength (now reg) ≡ true ⌝ ∗ ⌜ nodesLength (now nodes) ≡ true ⌝ ∗ ⌜ Good sheet need ≡ judgedOf (decode (now s)) ⌝ }
+    ensures { λ r. ⌜ ReadPromise (now (s .entry)) (tables (now (reg .entry)) (now (nodes .entry))) r (tables (now (reg .exit)) (now (nodes .exit))) ⌝ }
+{
+    let parts = wide16(sheet.parts);
+    if count_slots(reg) < parts {
+        return Answer::NoRoom(parts);
+    }
+    if node_count(nodes) < need {
+        return Answer::NoRoom(need);
+    }
+    let kits = wide16(sheet.kits);
+    fill(reg, nodes, s, parts, kits);
+    Answer::Done(kits)
+}
+
+// Reads a sheet into tables that have right lengths: kits read.
+pub fn read_sheet(reg: &mut [u8], nodes: &mut [u16], s: &[u8]) -> Answer
+    requires { ⌜ registerLength (now reg) ≡ true ⌝ ∗ ⌜ nodesLength (now nodes) ≡ true ⌝ }
+    ensures { λ r. ⌜ ReadPromise (now (s .entry)) (tables (now (reg .entry)) (now (nodes .entry))) r (tables (now (reg .exit)) (now (nodes .exit))) ⌝ }
+{
+    match judge(s) {
+        Judged::Fault(o) => Answer::Fault(o),
+        Judged::Good(sheet, need) => take_in(reg, nodes, s, sheet, need),
+    }
+}

@@ -1,0 +1,129 @@
+-- Mark, version, part count: each in the rest of the output behind the last, which has room for all still to come.
+use mathlib.Core.Path.{refl}
+use mathlib.Core.List.{_++_}
+use Prim.Native.Nat.{_+_, _-_}
+use native.Mathlib.Omega.{arith}
+use lib.ListN.{length}
+use borrow.Rule.Slice.PartMut.{putMid}
+use Rattle.sheet.specs.Bytes.{two, inBytes}
+use Rattle.sheet.specs.Sheet.{version}
+use Rattle.sheet.proofs.Numbers.{two-length}
+use Rattle.sheet_write.specs.Inner.{headItems}
+use Rattle.sheet_write.proofs.Down.{Going, going-of, going-room, going-inside, going-on, last-inside, last-room, going-last, down-size}
+use borrow.Author.Needs.{needs}
+use Rattle.sheet_write.proofs.put_head.Statement.{statement}
+use Rattle.sheet_write.proofs.put_head.Tie as tie
+
+first : (c : tie.After-slice-known2) →
+    let start : tie.Start = search in
+    Going (start .args .out .now) (c .before .before .copy-in .last .0) 3 (two version ++ two (start .args .parts))
+    (headItems (start .args .parts))
+unfolding headItems
+first c =
+    let start : tie.Start = search in
+    going-of (two version ++ two (start .args .parts)) (record { ends = refl; is = c .before .before .copy-in .ensures }) refl
+    (start .pre)
+
+second : (c : tie.After-slice-known3) →
+    let at-put-two : tie.After-put-two = search in
+    let at-copy-in : tie.After-copy-in = search in
+    let start : tie.Start = search in
+    Going (start .args .out .now)
+    (putMid 3 (length (at-copy-in .copy-in .last .0) - 3) (at-copy-in .copy-in .last .0) (at-put-two .put-two .last .0))
+    (3 + at-put-two .put-two .result) (two (start .args .parts)) (headItems (start .args .parts))
+second c =
+    let at-put-two : tie.After-put-two = search in
+    let at-slice-known2 : tie.After-slice-known2 = search in
+    let start : tie.Start = search in
+    going-on (two version) (two (start .args .parts)) (first at-slice-known2) (at-put-two .put-two .last .0)
+    (at-put-two .put-two .result) (at-put-two .put-two .ensures)
+
+slice-aggregate-copy-in : tie.Need-slice-aggregate-copy-in
+slice-aggregate-copy-in c = search needs
+
+copy-in-requires : tie.Need-copy-in-requires
+unfolding headItems inBytes
+copy-in-requires c κs =
+    let start : tie.Start = search in
+    omega (arith, start .pre)
+
+sub-put-two : tie.Need-sub-put-two
+sub-put-two c =
+    let start : tie.Start = search in
+    omega (arith, going-inside (two version) (two (start .args .parts)) (first c))
+
+part-put-two-start : tie.Need-part-put-two-start
+part-put-two-start c =
+    let start : tie.Start = search in
+    omega (arith, going-inside (two version) (two (start .args .parts)) (first c))
+
+part-put-two-end : tie.Need-part-put-two-end
+part-put-two-end c = search needs
+
+put-two-requires : tie.Need-put-two-requires
+put-two-requires c κs =
+    let start : tie.Start = search in
+    omega (arith, two-length version, going-room (two version) (two (start .args .parts)) (first (c .before)))
+
+add-at : tie.Need-add-at
+add-at c = omega (arith, two-length version, c .before .before .put-two .ensures .ends)
+
+sub-put-two-2 : tie.Need-sub-put-two-2
+sub-put-two-2 c = omega (arith, last-inside (second c))
+
+part-put-two-start-2 : tie.Need-part-put-two-start-2
+part-put-two-start-2 c = omega (arith, last-inside (second c))
+
+part-put-two-end-2 : tie.Need-part-put-two-end-2
+part-put-two-end-2 c = search needs
+
+put-two-requires-2 : tie.Need-put-two-requires-2
+put-two-requires-2 c κs =
+    let start : tie.Start = search in
+    omega (arith, two-length (start .args .parts), last-room (second (c .before)))
+
+add-result : tie.Need-add-result
+add-result c =
+    let at-put-two : tie.After-put-two = search in
+    let start : tie.Start = search in
+    omega (
+      arith,
+      two-length version,
+      two-length (start .args .parts),
+      c .before .before .put-two2 .ensures .ends,
+      at-put-two .put-two .ensures .ends,
+    )
+
+same-length : tie.Need-same-length
+same-length c =
+    let at-put-two2 : tie.After-put-two2 = search in
+    let at-slice-known3 : tie.After-slice-known3 = search in
+    let start : tie.Start = search in
+    down-size (going-last (second at-slice-known3) (at-put-two2 .put-two2 .last .0) (at-put-two2 .put-two2 .result)
+    (at-put-two2 .put-two2 .ensures)) (start .pre)
+
+returns : tie.Need-returns
+returns c =
+    let at-put-two2 : tie.After-put-two2 = search in
+    let at-slice-known3 : tie.After-slice-known3 = search in
+    going-last (second at-slice-known3) (at-put-two2 .put-two2 .last .0) (at-put-two2 .put-two2 .result)
+    (at-put-two2 .put-two2 .ensures)
+
+pub put-head-spec : {M : Type 1} → statement M
+put-head-spec =
+    tie.close
+    (tie.spec
+    slice-aggregate-copy-in
+    copy-in-requires
+    sub-put-two
+    part-put-two-start
+    part-put-two-end
+    put-two-requires
+    add-at
+    sub-put-two-2
+    part-put-two-start-2
+    part-put-two-end-2
+    put-two-requires-2
+    add-result
+    same-length
+    returns)

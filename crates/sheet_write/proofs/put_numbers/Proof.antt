@@ -1,0 +1,124 @@
+-- The numbers of the slots to come, laid behind those down, make the numbers of all n.
+use mathlib.Core.Path.{_≡_}
+use mathlib.Core.List.{List, _++_}
+use Prim.Native.Nat.{ℕ, _+_, _-_, _≤_}
+use native.Mathlib.Nat.{sub-zero}
+use native.Mathlib.Omega.{arith}
+use lib.ListN.{length}
+use Rattle.register.specs.Register.{numberAt}
+use Rattle.sheet.specs.Sheet.{numberItem}
+use Rattle.sheet_write.specs.Inner.{numbersFrom}
+use Rattle.sheet_write.proofs.Down.{Going, going-start, going-same, going-room, going-inside, going-on, going-end}
+use Rattle.sheet_write.proofs.Records.{numbers-step, numbers-end}
+use Rattle.sheet_write.proofs.put_numbers.Statement.{statement}
+use Rattle.sheet_write.proofs.put_numbers.Tie as tie
+
+abbrev Inv-loop : tie.InvT-loop
+Inv-loop out₀ reg n at₀ k₀ out at k = (k ≤ n) × Going out₀ out at (numbersFrom reg k (n - k)) (numbersFrom reg 0 n)
+
+abbrev μ-loop : tie.MeasureT-loop
+μ-loop out₀ reg n at₀ k₀ out at k = n - k
+
+module _ (c : tie.In-loop Inv-loop μ-loop) where
+  abbrev item : List ℕ
+  item =
+      let start : tie.Start Inv-loop μ-loop = search in
+      numberItem (numberAt (start .args .reg .now) (c .before .loop .k))
+
+  abbrev rest : List ℕ
+  rest =
+      let start : tie.Start Inv-loop μ-loop = search in
+      numbersFrom (start .args .reg .now) (c .before .loop .k + 1) (start .args .n - (c .before .loop .k + 1))
+
+  going :
+      let start : tie.Start Inv-loop μ-loop = search in
+      Going (start .args .out .now) (c .before .loop .out) (c .before .loop .at) (item ++ rest)
+      (numbersFrom (start .args .reg .now) 0 (start .args .n))
+  going =
+      let start : tie.Start Inv-loop μ-loop = search in
+      going-same (c .before .loop .inv .1)
+      (numbers-step (start .args .reg .now) (start .args .n) (c .before .loop .k) (omega arith))
+
+ends : (c : tie.After-slice-known2 Inv-loop μ-loop) →
+    let in-loop : tie.In-loop Inv-loop μ-loop = search in
+    c .before .before .put-number .result ≡ length (item in-loop)
+ends c =
+    let at-number-in : tie.After-number-in Inv-loop μ-loop = search in
+    rw (← at-number-in .number-in .ensures .0) (c .before .before .put-number .ensures .ends)
+
+loop-holds : tie.Need-loop-holds Inv-loop μ-loop
+loop-holds c =
+    let start : tie.Start Inv-loop μ-loop = search in (
+      omega arith,
+      rw sub-zero
+          (going-start (start .args .out .now) (numbersFrom (start .args .reg .now) 0 (start .args .n)) (start .pre .1)),
+    )
+
+sub-put-number : tie.Need-sub-put-number Inv-loop μ-loop
+sub-put-number c = omega (arith, going-inside (item c) (rest c) (going c))
+
+part-put-number-start : tie.Need-part-put-number-start Inv-loop μ-loop
+part-put-number-start c = omega (arith, going-inside (item c) (rest c) (going c))
+
+part-put-number-end : tie.Need-part-put-number-end Inv-loop μ-loop
+part-put-number-end c = omega arith
+
+number-in-requires : tie.Need-number-in-requires Inv-loop μ-loop
+number-in-requires c κs =
+    let start : tie.Start Inv-loop μ-loop = search in
+    (omega (arith, start .pre .0 .inside), start .pre .0 .short (c .before .before .loop .k) (omega arith))
+
+put-number-requires : tie.Need-put-number-requires Inv-loop μ-loop
+put-number-requires c κs =
+    let in-loop : tie.In-loop Inv-loop μ-loop = search in
+    (c .number-in .ensures .1, rw (c .number-in .ensures .0) (going-room (item in-loop) (rest in-loop) (going in-loop)))
+
+add-at : tie.Need-add-at Inv-loop μ-loop
+add-at c =
+    let in-loop : tie.In-loop Inv-loop μ-loop = search in
+    let at-loop : tie.At-loop Inv-loop μ-loop = search in
+    omega (arith, going-inside (item in-loop) (rest in-loop) (going in-loop), at-loop .loop .inv .1 .size, ends c)
+
+add-k : tie.Need-add-k Inv-loop μ-loop
+add-k c = omega arith
+
+loop-less : tie.Need-loop-less Inv-loop μ-loop
+loop-less c = omega arith
+
+loop-again : tie.Need-loop-again Inv-loop μ-loop
+loop-again c =
+    let at-put-number : tie.After-put-number Inv-loop μ-loop = search in
+    let at-number-in : tie.After-number-in Inv-loop μ-loop = search in
+    let in-loop : tie.In-loop Inv-loop μ-loop = search in (
+      omega arith,
+      going-on (item in-loop) (rest in-loop) (going in-loop) (at-put-number .put-number .last .0)
+          (at-put-number .put-number .result) (rw (← at-number-in .number-in .ensures .0) (at-put-number .put-number .ensures)),
+    )
+
+same-length : tie.Need-same-length Inv-loop μ-loop
+same-length c = c .before .loop .inv .1 .size
+
+returns : tie.Need-returns Inv-loop μ-loop
+returns c =
+    let start : tie.Start Inv-loop μ-loop = search in
+    going-end (going-same (c .before .loop .inv .1)
+    (numbers-end (start .args .reg .now) (start .args .n) (c .before .loop .k) (omega arith)))
+
+pub put-numbers-spec : {M : Type 1} → statement M
+put-numbers-spec =
+    tie.close
+    (tie.spec
+    Inv-loop
+    μ-loop
+    loop-holds
+    sub-put-number
+    part-put-number-start
+    part-put-number-end
+    number-in-requires
+    put-number-requires
+    add-at
+    add-k
+    loop-less
+    loop-again
+    same-length
+    returns)

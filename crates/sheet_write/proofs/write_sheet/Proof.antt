@@ -1,0 +1,128 @@
+-- Kits by node number and in listing order take as many bytes, so the need is the sheet's length; room decides.
+use mathlib.Core.Path.{_≡_, sym, _∙_, refl}
+use Prim.Native.Nat.{_+_}
+use native.Mathlib.Omega.{arith}
+use lib.ListN.{length}
+use Rattle.register.proofs.Sound.{ready-short}
+use Rattle.nodes.specs.Held.{held}
+use Rattle.sheet.specs.Sheet.{encode, contentsOf}
+use Rattle.sheet_write.proofs.Down.{down-size}
+use Rattle.sheet_write.proofs.Whole.{sheet-size, held-many, writing-12, writing-done}
+use Rattle.sheet_write.proofs.write_sheet.Statement.{statement}
+use Rattle.sheet_write.proofs.write_sheet.Tie as tie
+
+need : (c : tie.After-records-size) →
+    let start : tie.Start = search in
+    7 + c .before .numbers-size .result + 2 + c .records-size .result ≡ length
+    (encode (contentsOf (start .args .reg .now) (start .args .nodes .now)))
+need c =
+    let at-count-parts : tie.After-count-parts = search in
+    let start : tie.Start = search in
+    omega (
+      arith,
+      c .records-size .ensures .0,
+      c .before .numbers-size .ensures .0,
+      sheet-size (start .args .reg .now)
+          (start .args .nodes .now) (start .pre .0) (at-count-parts .count-parts .result) (length (held (start .args .nodes .now)))
+          (at-count-parts .count-parts .ensures .0) refl,
+    )
+
+count-parts-requires : tie.Need-count-parts-requires
+count-parts-requires c κs =
+    let start : tie.Start = search in
+    start .pre .0
+
+numbers-size-requires : tie.Need-numbers-size-requires
+numbers-size-requires c κs =
+    let start : tie.Start = search in (
+      ready-short (start .args .reg .now) (start .pre .0) (c .count-parts .result) (c .count-parts .ensures .0),
+      c .count-parts .ensures .1,
+    )
+
+add-need : tie.Need-add-need
+add-need c = omega (arith, c .numbers-size .ensures .1, c .before .count-parts .ensures .1)
+
+add-need-2 : tie.Need-add-need-2
+add-need-2 c = omega (arith, c .numbers-size .ensures .1, c .before .count-parts .ensures .1)
+
+records-size-requires : tie.Need-records-size-requires
+records-size-requires c κs =
+    let start : tie.Start = search in
+    start .pre .1 .shape
+
+add-need-3 : tie.Need-add-need-3
+add-need-3 c =
+    omega (arith, c .records-size .ensures .1, c .before .numbers-size .ensures .1, c .before .before .count-parts .ensures .1)
+
+returns : tie.Need-returns
+returns c =
+    let start : tie.Start = search in
+    writing-12 (contentsOf (start .args .reg .now) (start .args .nodes .now)) (start .args .out .now) _ (need (c .before))
+    (c .if1 .taken)
+
+cast-new : tie.Need-cast-new
+cast-new c =
+    let at-count-parts : tie.After-count-parts = search in
+    omega (arith, at-count-parts .count-parts .ensures .1)
+
+count-kits-requires : tie.Need-count-kits-requires
+count-kits-requires c κs =
+    let start : tie.Start = search in
+    start .pre .1 .shape
+
+new-requires : tie.Need-new-requires
+new-requires c κs = tt
+
+put-items-requires : tie.Need-put-items-requires
+put-items-requires c κs =
+    let else1 : tie.Else1 = search in
+    let at-records-size : tie.After-records-size = search in
+    let at-count-parts : tie.After-count-parts = search in
+    let start : tie.Start = search in (
+      start .pre .0,
+      (
+        start .pre .1,
+        (
+          record {
+            parts = c .before .new .ensures .0 ∙ at-count-parts .count-parts .ensures .0;
+            kits = c .before .new .ensures .1
+                ∙ c .before .before .count-kits .ensures ∙ sym (held-many (start .args .nodes .now));
+          },
+          omega
+              (arith, need at-records-size, else1 .if1 .left),
+        ),
+      ),
+    )
+
+same-length : tie.Need-same-length
+same-length c =
+    let else1 : tie.Else1 = search in
+    let at-records-size : tie.After-records-size = search in
+    down-size (c .before .before .put-items .ensures) (omega (arith, need at-records-size, else1 .if1 .left))
+
+returns-2 : tie.Need-returns-2
+returns-2 c =
+    let at-put-items : tie.After-put-items = search in
+    let else1 : tie.Else1 = search in
+    let at-records-size : tie.After-records-size = search in
+    let start : tie.Start = search in
+    writing-done (contentsOf (start .args .reg .now) (start .args .nodes .now)) (start .args .out .now) _ (need at-records-size) _
+    (at-put-items .put-items .result) (else1 .if1 .left) (at-put-items .put-items .ensures)
+
+pub write-sheet-spec : {M : Type 1} → statement M
+write-sheet-spec =
+    tie.close
+    (tie.spec
+    count-parts-requires
+    numbers-size-requires
+    add-need
+    add-need-2
+    records-size-requires
+    add-need-3
+    returns
+    cast-new
+    count-kits-requires
+    new-requires
+    put-items-requires
+    same-length
+    returns-2)
