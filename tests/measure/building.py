@@ -49,6 +49,23 @@ def crate_paths(crates):
     return ["crates/" + crate for crate in crates]
 
 
+def crates_below(text, crate):
+    """This crate and those below it, each with the crates that it stands on, as crates.txt lists them."""
+    listed = dict(line.split(":", 1) for line in text.splitlines() if ":" in line and line[0] != "#")
+    if crate not in listed:
+        raise CannotMeasure("no crate %s is listed" % crate)
+    wanted = [crate]
+    for name in wanted:
+        wanted += [below for below in listed.get(name, "").split() if below not in wanted]
+    return {name: below for name, below in listed.items() if name in wanted}
+
+
+def listing(crates):
+    """The list of these crates, and of the one that is timed, on all of them."""
+    text = "".join("%s:%s\n" % line for line in crates.items())
+    return "%s%s: %s\n" % (text, TIMED, " ".join(crates))
+
+
 def empty_crates(folder):
     """Leaves no crate there."""
     shutil.rmtree(folder / "crates", ignore_errors=True)
