@@ -82,7 +82,7 @@ same-length : tie.Need-same-length
 same-length c = simp length-set
 
 returns : tie.Need-returns
-returns c = six-laid (c .args .nodes .now) (c .args .f * 6) _ _ _ _ _ _ (omega arith)
+returns c = six-laid (c .args .nodes .now) (c .args .f * 6) _ _ _ _ _ _
 
 pub put-node-spec : {M : Type 1} → statement M
 put-node-spec =
