@@ -76,6 +76,14 @@ rest-put {o} {all} {m} {rest} {bs} {more} {new} {from} {at} {r} t e p =
       lies = rw (p .lies, p .behind) (laid-laid m at bs more) ∙ ap (laid m at) (sym e) ∙ t .lies;
     }
 
+-- the first piece: it has room, and it is set down
+pub first-fits : (o bs more all : List ℕ) → all ≡ bs ++ more → length all ≤ length o → length bs ≤ length o
+first-fits o bs more all e h = omega (arith, ap length e, length-append bs more)
+
+pub rest-behind : {o m bs all : List ℕ} {r : ℕ} (more : List ℕ) → Put o 0 bs r m → all ≡ bs ++ more → length all ≤ length o →
+    Rest o 0 all m r more
+rest-behind {o} {all = all} more p e h = rest-put (rest-start o 0 all (omega arith)) e p
+
 -- nothing is to come
 pub rest-end : {o all m rest : List ℕ} {from at : ℕ} → Rest o from all m at rest → rest ≡ [] → Put o from all at m
 rest-end {o} {all} {m} {rest} {from} {at} t e =

@@ -23,11 +23,12 @@ use Rattle.sheet.specs.declared.Sheet.{Sheet}
 use Rattle.sheet.proofs.Accepted.{records-back}
 use Rattle.sheet.proofs.Laws.{new-kits-rise}
 use Rattle.sheet.proofs.Written.{any-good}
-use Rattle.sheet_judge.specs.Inner.{judgedOf, sheetOf, behindNumbers, Numbered, recordAt, listAt, WholeAt, Tags, Latest, growth}
+use Rattle.sheet.specs.Inner.{recordAt, listAt, WholeAt}
+use Rattle.sheet_judge.specs.Inner.{judgedOf, sheetOf, behindNumbers, Numbered, Tags, Latest, growth}
 use Rattle.sheet_judge.specs.declared.Judged.the-variants.{Fault, Good}
 use Rattle.sheet_judge.proofs.Front.{one-ok, two-short, two-ok}
 use Rattle.sheet_judge.proofs.Growth.{growth-beginnings, lastRow, growth-last, last-row}
-use Rattle.sheet_judge.proofs.Records.{size-at, tag-is, row-is}
+use Rattle.sheet.proofs.Places.{size-at, tag-is, row-is}
 
 -- kits read before those of a run
 unfoldable pub prepend : List Kit → Run → Run

@@ -37,7 +37,8 @@ loop-holds c =
       c .depth-at .ensures .0 ∙ node-deep (start .args .nodes .now) (start .pre .0) (start .args .i) (start .pre .1),
       start .pre .1,
       c .depth-at .ensures .0,
-      laid-zeros (nodeRow (start .args .nodes .now) (start .args .i)),
+      laid-zeros (nodeRow (start .args .nodes .now) (start .args .i))
+          (node-short (start .args .nodes .now) (start .pre .0) (start .args .i) (start .pre .1)),
     )
 
 sub-at : tie.Need-sub-at Inv-loop μ-loop

@@ -3,10 +3,10 @@ use mathlib.Core.Path.{_≡_, sym, _∙_, refl}
 use Prim.Native.Nat.{_+_}
 use native.Mathlib.Omega.{arith}
 use lib.ListN.{length}
+use Rattle.ground.proofs.Put.{put-length}
 use Rattle.register.proofs.Sound.{ready-short}
 use Rattle.nodes.specs.Held.{held}
 use Rattle.sheet.specs.Sheet.{encode, contentsOf}
-use Rattle.sheet_write.proofs.Down.{down-size}
 use Rattle.sheet_write.proofs.Whole.{sheet-size, held-many, writing-12, writing-done}
 use Rattle.sheet_write.proofs.write_sheet.Statement.{statement}
 use Rattle.sheet_write.proofs.write_sheet.Tie as tie
@@ -98,7 +98,7 @@ same-length : tie.Need-same-length
 same-length c =
     let else1 : tie.Else1 = search in
     let at-records-size : tie.After-records-size = search in
-    down-size (c .before .before .put-items .ensures) (omega (arith, need at-records-size, else1 .if1 .left))
+    put-length (c .before .before .put-items .ensures)
 
 returns-2 : tie.Need-returns-2
 returns-2 c =

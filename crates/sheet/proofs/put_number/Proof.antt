@@ -3,10 +3,10 @@ use mathlib.Core.Path.{_∙_}
 use native.Mathlib.Omega.{arith}
 use lib.ListN.{length, length-set}
 use Rattle.ground.proofs.Laid.{laid-cons}
 use Rattle.sheet.specs.Sheet.{numberItem}
 use borrow.Author.Needs.{needs}
-use Rattle.sheet_write.proofs.put_number.Statement.{statement}
-use Rattle.sheet_write.proofs.put_number.Tie as tie
+use Rattle.sheet.proofs.put_number.Statement.{statement}
+use Rattle.sheet.proofs.put_number.Tie as tie
 
 cast-out : tie.Need-cast-out
 cast-out c = search needs
@@ -31,7 +31,7 @@ returns c =
     let start : tie.Start = search in
     let l = start .args .out .now in
     let n = start .args .num .now in
-    record { ends = omega arith; is = c .before .before .copy-in .ensures ∙ laid-cons l 0 (length n) n (omega arith) }
+    record { behind = omega arith; lies = c .before .before .copy-in .ensures ∙ laid-cons l 0 (length n) n }
 
 pub put-number-spec : {M : Type 1} → statement M
 put-number-spec =

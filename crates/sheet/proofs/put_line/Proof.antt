@@ -1,10 +1,10 @@
--- Quotient and rest by 256 are the two bytes, and two bytes set are two laid.
-use Prim.Native.Nat.{_/_, _%_}
+-- A place in one byte is its rest by 256; a quantity below 256 is a byte already.
+use Prim.Native.Nat.{_%_}
 use Rattle.sheet.specs.Bytes.{inBytes}
-use Rattle.sheet_write.proofs.Down.{down-two}
+use Rattle.ground.proofs.Put.{put-one, put-put}
 use borrow.Author.Needs.{needs}
-use Rattle.sheet_write.proofs.put_two.Statement.{statement}
-use Rattle.sheet_write.proofs.put_two.Tie as tie
+use Rattle.sheet.proofs.put_line.Statement.{statement}
+use Rattle.sheet.proofs.put_line.Tie as tie
 
 cast-out : tie.Need-cast-out
 cast-out c = search needs
@@ -23,8 +23,8 @@ same-length c = search needs
 
 returns : tie.Need-returns
 unfolding inBytes
-returns c = down-two (c .args .out .now) (c .args .x / 256 % 256) (c .args .x % 256) (c .pre)
+returns c = put-put (put-one (c .args .out .now) 0 (c .args .place % 256)) (put-one _ 1 (c .args .quantity))
 
-pub put-two-spec : {M : Type 1} → statement M
-put-two-spec =
+pub put-line-spec : {M : Type 1} → statement M
+put-line-spec =
     tie.close (tie.spec cast-out slice-write-out cast-out-2 slice-write-out-2 same-length returns)

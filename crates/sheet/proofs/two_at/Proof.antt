@@ -1,9 +1,9 @@
 -- The high byte 256 times and the low byte once, each below 256, are what the two bytes spell.
 use native.Mathlib.Omega.{arith}
-use Rattle.sheet_judge.proofs.Records.{two-value}
+use Rattle.sheet.proofs.Places.{two-value}
 use borrow.Author.Needs.{needs}
-use Rattle.sheet_judge.proofs.two_at.Statement.{statement}
-use Rattle.sheet_judge.proofs.two_at.Tie as tie
+use Rattle.sheet.proofs.two_at.Statement.{statement}
+use Rattle.sheet.proofs.two_at.Tie as tie
 
 shared-slice-read-word : tie.Need-shared-slice-read-word
 shared-slice-read-word c = search needs

@@ -9,17 +9,17 @@ use lib.ListN.{length, drop, length-map}
 use Rattle.kits.specs.Kits.{mostUnits, listOf}
 use Rattle.kits.specs.Inner.{unitsIn}
 use Rattle.kits.proofs.Rows.{row-length}
 use Rattle.sheet.specs.Bytes.{inBytes}
 use Rattle.sheet.specs.Sheet.{placeBytes, lineItems}
-use Rattle.sheet_write.proofs.Down.{Going, going-start, going-same, going-room, going-inside, going-on, going-end}
-use Rattle.sheet_write.proofs.Records.{lines-step, lines-end, line-small, line-on}
-use Rattle.sheet_write.proofs.put_lines.Statement.{statement}
-use Rattle.sheet_write.proofs.put_lines.Tie as tie
+use Rattle.ground.proofs.Put.{Rest, rest-start, rest-same, rest-fits, rest-inside, rest-lent, rest-end}
+use Rattle.sheet.proofs.Lines.{lines-step, lines-end, line-small, line-on}
+use Rattle.sheet.proofs.put_lines.Statement.{statement}
+use Rattle.sheet.proofs.put_lines.Tie as tie
 
 abbrev Inv-loop : tie.InvT-loop
 Inv-loop out₀ row at₀ i₀ out at i =
-    (row .len ≤ mostUnits) × (length (unitsIn row) ≡ row .len) × Going out₀ out at
-    (lineItems placeBytes (listOf (drop i (unitsIn row)))) (lineItems placeBytes (listOf (unitsIn row)))
+    (row .len ≤ mostUnits) × (length (unitsIn row) ≡ row .len) × Rest out₀ 0
+    (lineItems placeBytes (listOf (unitsIn row))) out at (lineItems placeBytes (listOf (drop i (unitsIn row))))
 
 abbrev μ-loop : tie.MeasureT-loop
 μ-loop out₀ row at₀ i₀ out at i = row .len - i
@@ -50,27 +50,26 @@ module _ (c : tie.After-line-at Inv-loop μ-loop) where
   going :
       let at-loop : tie.At-loop Inv-loop μ-loop = search in
       let start : tie.Start Inv-loop μ-loop = search in
-      Going (start .args .out .now) (at-loop .loop .out) (at-loop .loop .at) (item ++ rest) (lineItems placeBytes (listOf us))
+      Rest (start .args .out .now) 0 (lineItems placeBytes (listOf us)) (at-loop .loop .out) (at-loop .loop .at) (item ++ rest)
   going =
       let at-loop : tie.At-loop Inv-loop μ-loop = search in
-      going-same (at-loop .loop .inv .2) (lines-step us (at-loop .loop .i) (c .line-at .result) inside (c .line-at .ensures))
+      rest-same (at-loop .loop .inv .2) (lines-step us (at-loop .loop .i) (c .line-at .result) inside (c .line-at .ensures))
 
 loop-holds : tie.Need-loop-holds Inv-loop μ-loop
 loop-holds c = (
   c .before .pre .0,
   row-length (c .before .args .row) (wide (c .before)) (c .before .pre .0),
-  going-start _ _
-      (c .before .pre .1),
+  rest-start _ 0 _ (omega (arith, c .before .pre .1)),
 )
 
 line-at-requires : tie.Need-line-at-requires Inv-loop μ-loop
 line-at-requires c κs = (c .before .before .loop .inv .0, c .if1 .taken)
 
 sub-put-line : tie.Need-sub-put-line Inv-loop μ-loop
-sub-put-line c = omega (arith, going-inside (item c) (rest c) (going c))
+sub-put-line c = omega (arith, rest-inside (item c) (rest c) (going c))
 
 part-put-line-start : tie.Need-part-put-line-start Inv-loop μ-loop
-part-put-line-start c = omega (arith, going-inside (item c) (rest c) (going c))
+part-put-line-start c = omega (arith, rest-inside (item c) (rest c) (going c))
 
 part-put-line-end : tie.Need-part-put-line-end Inv-loop μ-loop
 part-put-line-end c = omega arith
@@ -78,7 +77,7 @@ part-put-line-end c = omega arith
 put-line-requires : tie.Need-put-line-requires Inv-loop μ-loop
 put-line-requires c κs =
     let at-loop : tie.At-loop Inv-loop μ-loop = search in (
-      let r = going-room (item (c .before)) (rest (c .before)) (going (c .before)) in omega (
+      let r = rest-fits (item (c .before)) (rest (c .before)) (going (c .before)) in omega (
         arith,
         r,
         length-append (inBytes placeBytes (c .before .line-at .result .place)) (c .before .line-at .result .quantity ∷ []),
@@ -91,7 +90,7 @@ put-line-requires c κs =
 add-at : tie.Need-add-at Inv-loop μ-loop
 add-at c =
     let at-line-at : tie.After-line-at Inv-loop μ-loop = search in
-    omega (arith, going-inside (item at-line-at) (rest at-line-at) (going at-line-at), c .before .before .put-line .ensures .ends)
+    omega (arith, rest-inside (item at-line-at) (rest at-line-at) (going at-line-at), c .before .before .put-line .ensures .behind)
 
 loop-less : tie.Need-loop-less Inv-loop μ-loop
 loop-less c =
@@ -112,8 +111,7 @@ loop-again c =
     let at-loop : tie.At-loop Inv-loop μ-loop = search in (
       at-loop .loop .inv .0,
       at-loop .loop .inv .1,
-      going-on (item at-line-at) (rest at-line-at) (going at-line-at)
-          (at-put-line .put-line .last .0) (at-put-line .put-line .result) (at-put-line .put-line .ensures),
+      rest-lent (item at-line-at) (rest at-line-at) (going at-line-at) (at-put-line .put-line .ensures),
     )
 
 same-length : tie.Need-same-length Inv-loop μ-loop
@@ -123,8 +121,8 @@ returns : tie.Need-returns Inv-loop μ-loop
 returns c =
     let at-loop : tie.At-loop Inv-loop μ-loop = search in
     let start : tie.Start Inv-loop μ-loop = search in
-    going-end (going-same (at-loop .loop .inv .2)
-    (lines-end (unitsIn (start .args .row)) (at-loop .loop .i) (omega (arith, at-loop .loop .inv))))
+    rest-end (at-loop .loop .inv .2)
+    (lines-end (unitsIn (start .args .row)) (at-loop .loop .i) (omega (arith, at-loop .loop .inv)))
 
 pub put-lines-spec : {M : Type 1} → statement M
 put-lines-spec =

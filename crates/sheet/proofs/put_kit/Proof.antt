@@ -1,6 +1,5 @@
 -- 64 units make at most 64 lines, so the count is a byte; with it and the tag down only the lines are to come.
 use lib.ListN.{length-set}
-use Rattle.sheet_write.proofs.Down.{down-size}
 use mathlib.Core.Path.{_≡_, sym, _∙_}
 use Prim.Native.Nat.{_/_, _<_}
 use native.Mathlib.Omega.{arith}
@@ -8,14 +7,14 @@ use lib.ListN.{length, set, length-map}
 use Rattle.kits.specs.Kits.{mostUnits, listOf}
 use Rattle.kits.specs.Inner.{unitsIn}
 use Rattle.kits.proofs.Rows.{row-length}
 use Rattle.sheet.specs.Bytes.{inBytes}
-use Rattle.sheet.specs.Sheet.{placeBytes, lineItems, recordItem}
-use Rattle.sheet_write.specs.Inner.{kitOf}
-use Rattle.sheet_write.proofs.Down.{Going, last-inside, last-room, going-last}
-use Rattle.sheet_write.proofs.Records.{kit-going, lines-few}
+use Rattle.sheet.specs.Sheet.{placeBytes, countAt, linesAt, lineItems, recordItem}
+use Rattle.sheet.specs.Inner.{kitOf}
+use Rattle.ground.proofs.Put.{Rest, put-length, last-fits, last-lent}
+use Rattle.sheet.proofs.Lines.{kit-going, lines-few}
 use borrow.Author.Needs.{needs}
-use Rattle.sheet_write.proofs.put_kit.Statement.{statement}
-use Rattle.sheet_write.proofs.put_kit.Tie as tie
+use Rattle.sheet.proofs.put_kit.Statement.{statement}
+use Rattle.sheet.proofs.put_kit.Tie as tie
 
 -- a row by value has 64 places
 wide : (c : tie.Start) → length (c .args .row .places) ≡ mostUnits
@@ -27,9 +26,8 @@ few c = omega (arith, c .pre .0, row-length (c .args .row) (wide c) (c .pre .0),
 going : (c : tie.After-line-count) →
     let at-put-two : tie.After-put-two = search in
     let start : tie.Start = search in
-    Going (start .args .out .now) (set (at-put-two .put-two .last .0) 2 (c .line-count .result)) 3
-    (lineItems placeBytes (listOf (unitsIn (start .args .row))))
-    (recordItem placeBytes (kitOf (unitsIn (start .args .row)) (start .args .tag)))
+    Rest (start .args .out .now) 0 (recordItem placeBytes (kitOf (unitsIn (start .args .row)) (start .args .tag)))
+    (set (at-put-two .put-two .last .0) countAt (c .line-count .result)) linesAt (lineItems placeBytes (listOf (unitsIn (start .args .row))))
 going c =
     let at-put-two : tie.After-put-two = search in
     let start : tie.Start = search in
@@ -49,13 +47,13 @@ cast-out c =
     omega (arith, c .line-count .ensures, few start)
 
 slice-write-out : tie.Need-slice-write-out
-slice-write-out c = omega (arith, rw length-set at (last-inside (going c)))
+slice-write-out c = omega (arith, rw length-set at (going c .room))
 
 sub-put-lines : tie.Need-sub-put-lines
-sub-put-lines c = omega (arith, last-inside (going c))
+sub-put-lines c = omega (arith, going c .room)
 
 part-put-lines-start : tie.Need-part-put-lines-start
-part-put-lines-start c = omega (arith, last-inside (going c))
+part-put-lines-start c = omega (arith, going c .room)
 
 part-put-lines-end : tie.Need-part-put-lines-end
 part-put-lines-end c = search needs
@@ -63,27 +61,24 @@ part-put-lines-end c = search needs
 put-lines-requires : tie.Need-put-lines-requires
 put-lines-requires c κs =
     let start : tie.Start = search in
-    (start .pre .0, last-room (going (c .before)))
+    (start .pre .0, last-fits (going (c .before)))
 
 add-result : tie.Need-add-result
 add-result c =
     let at-line-count : tie.After-line-count = search in
-    omega (arith, last-inside (going at-line-count), going at-line-count .size, c .before .before .put-lines .ensures .ends)
+    omega (arith, going at-line-count .room, going at-line-count .size, c .before .before .put-lines .ensures .behind)
 
 same-length : tie.Need-same-length
 same-length c =
     let at-put-lines : tie.After-put-lines = search in
     let at-line-count : tie.After-line-count = search in
-    let start : tie.Start = search in
-    down-size (going-last (going at-line-count) (at-put-lines .put-lines .last .0) (at-put-lines .put-lines .result)
-    (at-put-lines .put-lines .ensures)) (start .pre .1)
+    put-length (last-lent (going at-line-count) (at-put-lines .put-lines .ensures))
 
 returns : tie.Need-returns
 returns c =
     let at-put-lines : tie.After-put-lines = search in
     let at-line-count : tie.After-line-count = search in
-    going-last (going at-line-count) (at-put-lines .put-lines .last .0) (at-put-lines .put-lines .result)
-    (at-put-lines .put-lines .ensures)
+    last-lent (going at-line-count) (at-put-lines .put-lines .ensures)
 
 pub put-kit-spec : {M : Type 1} → statement M
 put-kit-spec =
