@@ -36,7 +36,8 @@ use Rattle.sheet.specs.Sheet.{Contents, contentsOf, placeBytes, numberItem, num
 use Rattle.sheet.specs.Inner.{goodKit}
 use Rattle.sheet.specs.Reading.{decode, said}
 use Rattle.sheet.specs.Calls.{sheetRefusals, roomRefusals}
-use Rattle.sheet_write.proofs.Records.{number-size, record-size, lines-few}
+use Rattle.sheet.proofs.Lines.{record-size, lines-few}
+use Rattle.sheet_write.proofs.Records.{number-size}
 use Rattle.sheet_read.proofs.Listed.{Fits, fitting-fits, kit-fits}
 use Rattle.sheet_read.proofs.Reading.{said-again}
 use Rattle.sheet_read.proofs.RoundTrip.{SmallTags, words-small, catalogue-fits}

@@ -21,7 +21,8 @@ use Rattle.sheet.proofs.Written.{items-length}
 
 -- the lines of a row, one after the other
 module _ (us : List ℕ) (at : ℕ) (r : Line) (h : at < length us) (e : r ≡ lineAt us at) where
-  pub lines-step : lineItems placeBytes (listOf (drop at us)) ≡ (inBytes placeBytes (r .place) ++ (r .quantity ∷ [])) ++ lineItems placeBytes (listOf (drop (r .next) us))
+  pub lines-step :
+      lineItems placeBytes (listOf (drop at us)) ≡ (inBytes placeBytes (r .place) ++ (r .quantity ∷ [])) ++ lineItems placeBytes (listOf (drop (r .next) us))
   unfolding lineItems inBytes
   lines-step = rw (e, lines-from us at h)
 

@@ -63,7 +63,8 @@ module _ (t : ℕ) where
     first :
         let at-put-own : lts.After-put-own (R t) (At t) own.Post = search in
         let start : lts.Start (R t) (At t) own.Post = search in
-        Rest (start .args .out .now) 0 (recordsFrom (start .args .nodes .now) (start .args .link)) (at-put-own .put-own .last .0) (at-put-own .put-own .result) (below ++ behind)
+        Rest (start .args .out .now) 0 (recordsFrom (start .args .nodes .now) (start .args .link)) (at-put-own .put-own .last .0)
+        (at-put-own .put-own .result) (below ++ behind)
     first =
         let else1 : lts.Else1 (R t) (At t) own.Post = search in
         let start : lts.Start (R t) (At t) own.Post = search in
@@ -75,7 +76,8 @@ module _ (t : ℕ) where
         let at-put-kits : lts.After-put-kits (R t) (At t) own.Post = search in
         let at-slice-known2 : lts.After-slice-known2 (R t) (At t) own.Post = search in
         let at-put-own : lts.After-put-own (R t) (At t) own.Post = search in
-        Put (tail-of (at-put-own .put-own .last .0) (at-put-own .put-own .result)) 0 (below at-slice-known2) (at-put-kits .put-kits .result) (at-put-kits .put-kits .last .0)
+        Put (tail-of (at-put-own .put-own .last .0) (at-put-own .put-own .result)) 0 (below at-slice-known2)
+        (at-put-kits .put-kits .result) (at-put-kits .put-kits .last .0)
     below-down =
         let at-child-at : lts.After-child-at (R t) (At t) own.Post = search in
         let start : lts.Start (R t) (At t) own.Post = search in
@@ -92,7 +94,9 @@ module _ (t : ℕ) where
         let at-slice-known2 : lts.After-slice-known2 (R t) (At t) own.Post = search in
         let at-put-own : lts.After-put-own (R t) (At t) own.Post = search in
         let start : lts.Start (R t) (At t) own.Post = search in
-        Rest (start .args .out .now) 0 (recordsFrom (start .args .nodes .now) (start .args .link)) (back (at-put-own .put-own .last .0) (at-put-own .put-own .result) (at-put-kits .put-kits .last .0)) (at-put-own .put-own .result + at-put-kits .put-kits .result) (behind at-slice-known2)
+        Rest (start .args .out .now) 0 (recordsFrom (start .args .nodes .now) (start .args .link))
+        (back (at-put-own .put-own .last .0) (at-put-own .put-own .result) (at-put-kits .put-kits .last .0))
+        (at-put-own .put-own .result + at-put-kits .put-kits .result) (behind at-slice-known2)
     second =
         let at-put-kits : lts.After-put-kits (R t) (At t) own.Post = search in
         let at-slice-known2 : lts.After-slice-known2 (R t) (At t) own.Post = search in
@@ -105,7 +109,8 @@ module _ (t : ℕ) where
         let at-slice-known2 : lts.After-slice-known2 (R t) (At t) own.Post = search in
         let at-put-own : lts.After-put-own (R t) (At t) own.Post = search in
         Put (tail-of (back (at-put-own .put-own .last .0) (at-put-own .put-own .result) (at-put-kits .put-kits .last .0))
-        (at-put-own .put-own .result + at-put-kits .put-kits .result)) 0 (behind at-slice-known2) (at-put-kits2 .put-kits2 .result) (at-put-kits2 .put-kits2 .last .0)
+        (at-put-own .put-own .result + at-put-kits .put-kits .result)) 0 (behind at-slice-known2) (at-put-kits2 .put-kits2 .result)
+        (at-put-kits2 .put-kits2 .last .0)
     behind-down =
         let at-next-at : lts.After-next-at (R t) (At t) own.Post = search in
         let start : lts.Start (R t) (At t) own.Post = search in
@@ -122,7 +127,9 @@ module _ (t : ℕ) where
         let at-put-kits : lts.After-put-kits (R t) (At t) own.Post = search in
         let at-put-own : lts.After-put-own (R t) (At t) own.Post = search in
         let start : lts.Start (R t) (At t) own.Post = search in
-        Put (start .args .out .now) 0 (recordsFrom (start .args .nodes .now) (start .args .link)) (at-put-own .put-own .result + at-put-kits .put-kits .result + at-put-kits2 .put-kits2 .result) (back (back (at-put-own .put-own .last .0) (at-put-own .put-own .result) (at-put-kits .put-kits .last .0))
+        Put (start .args .out .now) 0 (recordsFrom (start .args .nodes .now) (start .args .link))
+        (at-put-own .put-own .result + at-put-kits .put-kits .result + at-put-kits2 .put-kits2 .result)
+        (back (back (at-put-own .put-own .last .0) (at-put-own .put-own .result) (at-put-kits .put-kits .last .0))
         (at-put-own .put-own .result + at-put-kits .put-kits .result) (at-put-kits2 .put-kits2 .last .0))
     third =
         let at-put-kits2 : lts.After-put-kits2 (R t) (At t) own.Post = search in

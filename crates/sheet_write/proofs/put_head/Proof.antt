@@ -27,7 +27,9 @@ second : (c : tie.After-slice-known3) →
     let at-put-two : tie.After-put-two = search in
     let at-copy-in : tie.After-copy-in = search in
     let start : tie.Start = search in
-    Rest (start .args .out .now) 0 (headItems (start .args .parts)) (putMid 3 (length (at-copy-in .copy-in .last .0) - 3) (at-copy-in .copy-in .last .0) (at-put-two .put-two .last .0)) (3 + at-put-two .put-two .result) (two (start .args .parts))
+    Rest (start .args .out .now) 0 (headItems (start .args .parts))
+    (putMid 3 (length (at-copy-in .copy-in .last .0) - 3) (at-copy-in .copy-in .last .0) (at-put-two .put-two .last .0))
+    (3 + at-put-two .put-two .result) (two (start .args .parts))
 second c =
     let at-put-two : tie.After-put-two = search in
     let at-slice-known2 : tie.After-slice-known2 = search in

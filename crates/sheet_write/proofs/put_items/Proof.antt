@@ -34,7 +34,8 @@ module _ (c : tie.Start) where
 first : (c : tie.After-slice-known2) →
     let at-put-head : tie.After-put-head = search in
     let start : tie.Start = search in
-    Rest (start .args .out .now) 0 (encode (contentsOf (start .args .reg .now) (start .args .nodes .now))) (at-put-head .put-head .last .0) (at-put-head .put-head .result) (numbers start ++ (count start ++ records start))
+    Rest (start .args .out .now) 0 (encode (contentsOf (start .args .reg .now) (start .args .nodes .now))) (at-put-head .put-head .last .0)
+    (at-put-head .put-head .result) (numbers start ++ (count start ++ records start))
 first c =
     let start : tie.Start = search in
     rest-behind (numbers start ++ (count start ++ records start)) (c .before .before .put-head .ensures) (items start)
@@ -44,7 +45,8 @@ numbers-down : (c : tie.After-slice-known3) →
     let at-put-numbers : tie.After-put-numbers = search in
     let at-put-head : tie.After-put-head = search in
     let start : tie.Start = search in
-    Put (tail-of (at-put-head .put-head .last .0) (at-put-head .put-head .result)) 0 (numbers start) (at-put-numbers .put-numbers .result) (at-put-numbers .put-numbers .last .0)
+    Put (tail-of (at-put-head .put-head .last .0) (at-put-head .put-head .result)) 0 (numbers start) (at-put-numbers .put-numbers .result)
+    (at-put-numbers .put-numbers .last .0)
 numbers-down c =
     let at-wide16 : tie.After-wide16 = search in
     let start : tie.Start = search in
@@ -55,7 +57,9 @@ second : (c : tie.After-slice-known3) →
     let at-put-numbers : tie.After-put-numbers = search in
     let at-put-head : tie.After-put-head = search in
     let start : tie.Start = search in
-    Rest (start .args .out .now) 0 (encode (contentsOf (start .args .reg .now) (start .args .nodes .now))) (back (at-put-head .put-head .last .0) (at-put-head .put-head .result) (at-put-numbers .put-numbers .last .0)) (at-put-head .put-head .result + at-put-numbers .put-numbers .result) (count start ++ records start)
+    Rest (start .args .out .now) 0 (encode (contentsOf (start .args .reg .now) (start .args .nodes .now)))
+    (back (at-put-head .put-head .last .0) (at-put-head .put-head .result) (at-put-numbers .put-numbers .last .0))
+    (at-put-head .put-head .result + at-put-numbers .put-numbers .result) (count start ++ records start)
 second c =
     let at-put-numbers : tie.After-put-numbers = search in
     let at-slice-known2 : tie.After-slice-known2 = search in
@@ -67,8 +71,10 @@ third : (c : tie.After-slice-known4) →
     let at-put-numbers : tie.After-put-numbers = search in
     let at-put-head : tie.After-put-head = search in
     let start : tie.Start = search in
-    Rest (start .args .out .now) 0 (encode (contentsOf (start .args .reg .now) (start .args .nodes .now))) (back (back (at-put-head .put-head .last .0) (at-put-head .put-head .result) (at-put-numbers .put-numbers .last .0))
-    (at-put-head .put-head .result + at-put-numbers .put-numbers .result) (at-put-two .put-two .last .0)) (at-put-head .put-head .result + at-put-numbers .put-numbers .result + at-put-two .put-two .result) (records start)
+    Rest (start .args .out .now) 0 (encode (contentsOf (start .args .reg .now) (start .args .nodes .now)))
+    (back (back (at-put-head .put-head .last .0) (at-put-head .put-head .result) (at-put-numbers .put-numbers .last .0))
+    (at-put-head .put-head .result + at-put-numbers .put-numbers .result) (at-put-two .put-two .last .0))
+    (at-put-head .put-head .result + at-put-numbers .put-numbers .result + at-put-two .put-two .result) (records start)
 third c =
     let at-put-two : tie.After-put-two = search in
     let at-slice-known3 : tie.After-slice-known3 = search in
@@ -81,8 +87,10 @@ all : (c : tie.After-slice-known5) →
     let at-put-numbers : tie.After-put-numbers = search in
     let at-put-head : tie.After-put-head = search in
     let start : tie.Start = search in
-    Put (start .args .out .now) 0 (encode (contentsOf (start .args .reg .now) (start .args .nodes .now))) (at-put-head .put-head .result + at-put-numbers .put-numbers .result + at-put-two .put-two .result +
-    at-put-records .put-records .result) (back (back (back (at-put-head .put-head .last .0) (at-put-head .put-head .result) (at-put-numbers .put-numbers .last .0))
+    Put (start .args .out .now) 0 (encode (contentsOf (start .args .reg .now) (start .args .nodes .now)))
+    (at-put-head .put-head .result + at-put-numbers .put-numbers .result + at-put-two .put-two .result +
+    at-put-records .put-records .result)
+    (back (back (back (at-put-head .put-head .last .0) (at-put-head .put-head .result) (at-put-numbers .put-numbers .last .0))
     (at-put-head .put-head .result + at-put-numbers .put-numbers .result) (at-put-two .put-two .last .0))
     (at-put-head .put-head .result + at-put-numbers .put-numbers .result + at-put-two .put-two .result)
     (at-put-records .put-records .last .0))

@@ -16,7 +16,8 @@ use Rattle.sheet_write.proofs.put_records.Tie as tie
 first : (c : tie.After-slice-known2) →
     let at-put-own : tie.After-put-own = search in
     let start : tie.Start = search in
-    Rest (start .args .out .now) 0 (recordsAt (start .args .nodes .now) (walkAll (start .args .nodes .now))) (at-put-own .put-own .last .0) (at-put-own .put-own .result) (recordsFrom (start .args .nodes .now) (child (start .args .nodes .now) 0))
+    Rest (start .args .out .now) 0 (recordsAt (start .args .nodes .now) (walkAll (start .args .nodes .now))) (at-put-own .put-own .last .0)
+    (at-put-own .put-own .result) (recordsFrom (start .args .nodes .now) (child (start .args .nodes .now) 0))
 first c =
     let start : tie.Start = search in
     rest-behind (recordsFrom (start .args .nodes .now) (child (start .args .nodes .now) 0)) (c .before .before .put-own .ensures)
@@ -26,7 +27,8 @@ below : (c : tie.After-slice-known3) →
     let at-put-kits : tie.After-put-kits = search in
     let at-put-own : tie.After-put-own = search in
     let start : tie.Start = search in
-    Put (tail-of (at-put-own .put-own .last .0) (at-put-own .put-own .result)) 0 (recordsFrom (start .args .nodes .now) (child (start .args .nodes .now) 0)) (at-put-kits .put-kits .result) (at-put-kits .put-kits .last .0)
+    Put (tail-of (at-put-own .put-own .last .0) (at-put-own .put-own .result)) 0
+    (recordsFrom (start .args .nodes .now) (child (start .args .nodes .now) 0)) (at-put-kits .put-kits .result) (at-put-kits .put-kits .last .0)
 below c =
     let at-child-at : tie.After-child-at = search in
     let start : tie.Start = search in
@@ -37,7 +39,9 @@ both : (c : tie.After-slice-known3) →
     let at-put-kits : tie.After-put-kits = search in
     let at-put-own : tie.After-put-own = search in
     let start : tie.Start = search in
-    Put (start .args .out .now) 0 (recordsAt (start .args .nodes .now) (walkAll (start .args .nodes .now))) (at-put-own .put-own .result + at-put-kits .put-kits .result) (back (at-put-own .put-own .last .0) (at-put-own .put-own .result) (at-put-kits .put-kits .last .0))
+    Put (start .args .out .now) 0 (recordsAt (start .args .nodes .now) (walkAll (start .args .nodes .now)))
+    (at-put-own .put-own .result + at-put-kits .put-kits .result)
+    (back (at-put-own .put-own .last .0) (at-put-own .put-own .result) (at-put-kits .put-kits .last .0))
 both c =
     let at-put-kits : tie.After-put-kits = search in
     let at-slice-known2 : tie.After-slice-known2 = search in
