@@ -14,7 +14,13 @@ use Rattle.sheet.specs.Bytes.{twoLimit}
 use Rattle.sheet.specs.Sheet.{Contents, placeBytes, lineBytes, countAt, linesAt}
 use Rattle.sheet.specs.Reading.{recordSize}
 
--- mark, version and part count take so many bytes: where the numbers begin
+-- behind the mark stand version and part count, and behind these the numbers begin
+abbrev pub versionAt : ℕ
+versionAt = 3
+
+abbrev pub partsAt : ℕ
+partsAt = 5
+
 abbrev pub headBytes : ℕ
 headBytes = 7
 
