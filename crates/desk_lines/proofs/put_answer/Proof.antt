@@ -3,11 +3,6 @@ use Rattle.desk_replies.proofs.Replies.{put-same}
 use borrow.Author.Needs.{needs}
 use Rattle.desk_lines.proofs.put_answer.Statement.{statement}
 use Rattle.desk_lines.proofs.put_answer.Tie as tie
-use Rattle.desk_lines.proofs.put_answer.Reads as reads
-use Rattle.desk_lines.proofs.put_answer.Lts as lts
-use Rattle.desk_replies.proofs.put_reply.Reads as put-reply-reads
-use Rattle.ground.proofs.wide8.Reads as wide8-reads
-use Rattle.answers.proofs.reply_of.Reads as reply-of-reads
 
 reply-of-requires : tie.Need-reply-of-requires
 reply-of-requires c κs = search needs
