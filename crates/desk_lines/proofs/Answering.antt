@@ -25,8 +25,8 @@ use Rattle.answers.specs.declared.Answer.{Answer}
 use Rattle.answers.proofs.Answers.{done-or-refused}
 use Rattle.desk_text.specs.Letters as letter
 use Rattle.desk_text.specs.Lines.{fieldsFrom}
-use Rattle.desk_replies.specs.Replies.{replyLine, Put}
-use Rattle.desk_replies.proofs.Replies.{put-same}
+use Rattle.desk_replies.specs.Replies.{replyLine, ReplyStands}
+use Rattle.desk_replies.proofs.Replies.{reply-same}
 use Rattle.desk_lists.specs.Typed.{typed, stopped, lookedUp}
 use Rattle.desk_lists.specs.Inner.{typedAs, ReadAs}
 use Rattle.desk_lines.specs.Desk.{called, shown, registerLine, callOf, Answers}
@@ -61,7 +61,7 @@ module _ (cs : List Case) (xs o : List ℕ) where
       let p = decide-last cs (given (ltb (length o) (length xs)) 12 (length xs)) (length xs) v e in
       let h : length xs ≤ length o = ltb-false (length o) (length xs) (p .0) in
       let m : memory (setDown cs xs o) o ≡ laid o 0 xs = leaves-done (answer (setDown cs xs o)) v o (laid o 0 xs) e in
-      let n : length (memory (setDown cs xs o) o) ≡ length o = ap length m ∙ length-laid o 0 xs (omega arith) in
+      let n : length (memory (setDown cs xs o) o) ≡ length o = ap length m ∙ length-laid o 0 xs in
       omega (arith, p .1)
 
   set-down-inside : setDownBy (answer (setDown cs xs o)) ≤ length (memory (setDown cs xs o) o)
@@ -93,7 +93,7 @@ written-inside T o a m q = promised-inside _ o a m (set-down-inside _ _ o) q
 
 -- the reply to a call that sets something down
 pub shown-put : {old new : List ℕ} {r : ℕ} (x : ℕ) (print : List ℕ → List ℕ) (p : Plan (List ℕ)) (o : List ℕ) (a : Reply) (m : List ℕ) →
-    Promise p o a m → Put old 0 (printed x print a m) r new → Put old 0 (shown x print p o) r new
+    Promise p o a m → ReplyStands old (printed x print a m) r new → ReplyStands old (shown x print p o) r new
 unfolding shown
 shown-put x print p o a m q h = rw (← q .answers, ← q .lent) h
 
@@ -105,9 +105,9 @@ leaves-same (refused n v) m = refl
 -- the reply to a call on the tables
 module _ {old new : List ℕ} {r : ℕ} (x : ℕ) (T : Tables) where
   pub called-put : (p : Plan Tables) (a : Reply) (U : Tables) → Promise p T a U →
-      Put old 0 (replyLine x (numberOf a) (valueOf a) []) r new → Answers (called x p T) old r new U
+      ReplyStands old (replyLine x (numberOf a) (valueOf a) []) r new → Answers (called x p T) old r new U
   unfolding called
-  called-put p a U q h = record { put = rw (← q .answers) h; left = q .lent }
+  called-put p a U q h = record { reply = rw (← q .answers) h; left = q .lent }
 
 -- one that leaves them
 kept-promise : (p : Plan Tables) (T : Tables) (a : Reply) → p .after ≡ T → a ≡ answer p → Promise p T a T
@@ -133,7 +133,7 @@ on-register (done v) R M N = refl
 on-register (refused n v) R M N = refl
 
 pub register-put : {old new : List ℕ} {r : ℕ} (fs : List (List ℕ)) (R N n : List ℕ) (a : Reply) (M : List ℕ) → n ≡ getD fs 0 [] →
-    Promise (registering n R) R a M → Put old 0 (replyLine letter.registers (numberOf a) (valueOf a) []) r new →
+    Promise (registering n R) R a M → ReplyStands old (replyLine letter.registers (numberOf a) (valueOf a) []) r new →
     Answers (registerLine fs (tables R N)) old r new (tables M N)
 unfolding registerLine memory answer
 register-put fs R N n a M e q h =
@@ -199,11 +199,11 @@ other-refused a h = ⊎-elim (λ d. absurd (h (ap numberOf d))) (λ r. r .1) (do
 module _ (a : Answer) (o : List ℕ) where
   -- refused: nothing behind the value
   pub printed-refused : {old new : List ℕ} {r : ℕ} (x : ℕ) (print : List ℕ → List ℕ) (n : ℕ) → n ≡ numberOf (reply a) → (n ≡ 0 → ⊥) →
-      Put old 0 (replyLine x (numberOf (reply a)) (valueOf (reply a)) []) r new → Put old 0 (printed x print (reply a) o) r new
+      ReplyStands old (replyLine x (numberOf (reply a)) (valueOf (reply a)) []) r new → ReplyStands old (printed x print (reply a) o) r new
   printed-refused x print n e h p =
       let q = leaves-refused (reply a) (numberOf (reply a)) (valueOf (reply a)) [] (print (take (valueOf (reply a)) o))
       (other-refused a (λ z. h (e ∙ z))) in
-      put-same p (ap (replyLine x (numberOf (reply a)) (valueOf (reply a))) (sym q))
+      reply-same p (ap (replyLine x (numberOf (reply a)) (valueOf (reply a))) (sym q))
 
   -- done: what was set down, printed
   module _ (n v : ℕ) (e : n ≡ numberOf (reply a)) (z : n ≡ 0) (f : v ≡ valueOf (reply a)) (h : setDownBy (reply a) ≤ length o) where
@@ -217,9 +217,9 @@ module _ (a : Answer) (o : List ℕ) where
     done-length = length-take-le v o done-inside
 
     pub printed-done : {old new : List ℕ} {r : ℕ} (x : ℕ) (print : List ℕ → List ℕ) →
-        Put old 0 (replyLine x 0 (length (take v o)) (print (take v o))) r new → Put old 0 (printed x print (reply a) o) r new
+        ReplyStands old (replyLine x 0 (length (take v o)) (print (take v o))) r new → ReplyStands old (printed x print (reply a) o) r new
     printed-done x print p =
         let q = leaves-done (reply a) (valueOf (reply a)) [] (print (take (valueOf (reply a)) o)) done-is in
         let w = done-length in
         let y : numberOf (reply a) ≡ 0 = sym e ∙ z in
-        put-same p (ap (λ k. replyLine x 0 k (print (take v o))) w ∙ sym (rw (q, y, ← f) refl))
+        reply-same p (ap (λ k. replyLine x 0 k (print (take v o))) w ∙ sym (rw (q, y, ← f) refl))

@@ -1,12 +1,11 @@
 -- What a line leaves: its reply lies inside the output, and the tables do not depend on the outputs lent.
-use mathlib.Core.Path.{_≡_, refl, ap, _∙_}
+use mathlib.Core.Path.{_≡_, refl, ap}
 use mathlib.Core.Bool.{Bool, true, false, cond}
-use mathlib.Core.List.{List, [], _++_}
+use mathlib.Core.List.{List, []}
 use Prim.Native.Nat.{ℕ, _≤_, _<_}
 use native.Mathlib.Omega.{arith}
-use lib.ListN.{length, drop, length-append, length-drop}
+use lib.ListN.{length}
 use lib.Dec.{eqb}
-use Rattle.ground.proofs.Laid.{laid-front}
 use Rattle.ground.specs.Tables.{Tables}
 use Rattle.desk_text.specs.Letters as letter
 use Rattle.desk_text.specs.Lines.{longestLine, Parsed, none, line, parsed}
@@ -17,10 +16,7 @@ use Rattle.desk_lines.specs.Desk.{Answered, atDesk, writeLine, askLine, 
 -- the reply lies inside the output
 pub reply-inside : (a : Answered) (old : List ℕ) (r : ℕ) (new : List ℕ) (T : Tables) → Answers a old r new T → length new ≡ length old →
     r ≤ length new
-reply-inside a old r new T p e =
-    let bs = a .says in
-    let f : length new ≡ length (bs ++ drop (length bs) old) = ap length (p .put .lies ∙ laid-front old bs) in
-    omega (arith, p .put .behind, length-append bs (drop (length bs) old), length-drop (length bs) old)
+reply-inside a old r new T p e = omega (arith, p .reply .whole)
 
 -- the tables after a line do not depend on the outputs
 cond-after : (b : Bool) (x y u v : Answered) → x .after ≡ u .after → y .after ≡ v .after → cond b x y .after ≡ cond b u v .after

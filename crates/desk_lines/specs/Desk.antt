@@ -12,7 +12,7 @@ use Rattle.ground.specs.Tables.{Tables}
 use Rattle.catalogue.specs.Calls.{onRegister, inserting, finding, deleting, anyKit, allKits, writing}
 use Rattle.desk_text.specs.Letters as letter
 use Rattle.desk_text.specs.Lines.{space, Parsed, none, line, parsed}
-use Rattle.desk_replies.specs.Replies.{hexOf, tagsText, replyLine, otherLine, Put}
+use Rattle.desk_replies.specs.Replies.{hexOf, tagsText, replyLine, otherLine, ReplyStands}
 use Rattle.desk_lists.specs.Typed.{Typed, typed, stopped, lookedUp}
 
 -- a reply, and the tables afterwards
@@ -76,7 +76,7 @@ atDesk (line x t fs) o s T =
 unfoldable pub leftBy : List ℕ → Tables → Tables
 leftBy l T = atDesk (parsed l) [] [] T .after
 
--- What answering a line promises: the reply stands at the start of the output, r bytes long, and the tables are what they should be
+-- What answering a line promises: the reply stands at the start of the output, r bytes long and whole, and the tables are what they should be
 pub record Answers (a : Answered) (old : List ℕ) (r : ℕ) (new : List ℕ) (T : Tables) : Type 0 where
-  pub put : Put old 0 (a .says) r new
+  pub reply : ReplyStands old (a .says) r new
   pub left : T ≡ a .after

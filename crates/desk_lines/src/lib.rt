@@ -10,7 +10,7 @@ ghost use Rattle.answers.specs.Answers.{reply};
 ghost use Rattle.catalogue.specs.Calls.{writing};
 ghost use Rattle.desk_text.specs.Lines.{fieldsFrom, parsed};
 ghost use Rattle.desk_text.specs.Letters.{writes as writesLetter};
-ghost use Rattle.desk_replies.specs.Replies.{replyLine, tagsText, Put};
+ghost use Rattle.desk_replies.specs.Replies.{replyLine, tagsText, ReplyStands};
 ghost use Rattle.desk_replies.specs.Inner.{headRoom, tagRoom};
 ghost use Rattle.desk_lists.specs.Inner.{Pairs};
 ghost use Rattle.desk_lines.specs.Desk.{sheetText, registerLine, writeLine, callOf, asked, askLine, atDesk, Answers};
@@ -34,7 +34,7 @@ const LIST_WORDS: usize = 256;
 // Replies with letter, number and value.
 fn put_answer(out: &mut [u8], letter: u8, a: Answer) -> usize
     requires { ⌜ headRoom + 1 ≤ length (now out) ⌝ }
-    ensures { λ r. ⌜ Put (now (out .entry)) 0 (replyLine letter (numberOf (reply a)) (valueOf (reply a)) []) r (now (out .exit)) ⌝ }
+    ensures { λ r. ⌜ ReplyStands (now (out .entry)) (replyLine letter (numberOf (reply a)) (valueOf (reply a)) []) r (now (out .exit)) ⌝ }
 {
     let r = reply_of(a);
     let number = r.number;
@@ -44,7 +44,7 @@ fn put_answer(out: &mut [u8], letter: u8, a: Answer) -> usize
 // Replies with the tags that a listing has set down.
 fn put_listed(out: &mut [u8], letter: u8, a: Answer, places: &[u16]) -> usize
     requires { ⌜ headRoom + tagRoom * length (now places) + 1 ≤ length (now out) ⌝ ∗ ⌜ setDownBy (reply a) ≤ length (now places) ⌝ }
-    ensures { λ r. ⌜ Put (now (out .entry)) 0 (printed letter tagsText (reply a) (now (places .entry))) r (now (out .exit)) ⌝ }
+    ensures { λ r. ⌜ ReplyStands (now (out .entry)) (printed letter tagsText (reply a) (now (places .entry))) r (now (out .exit)) ⌝ }
 {
     let r = reply_of(a);
     let n = r.value;
@@ -57,7 +57,7 @@ fn put_listed(out: &mut [u8], letter: u8, a: Answer, places: &[u16]) -> usize
 // Replies with the sheet that was written.
 fn put_written(out: &mut [u8], a: Answer, sheet: &[u8]) -> usize
     requires { ⌜ headRoom + 1 + 2 * length (now sheet) + 1 ≤ length (now out) ⌝ ∗ ⌜ setDownBy (reply a) ≤ length (now sheet) ⌝ }
-    ensures { λ r. ⌜ Put (now (out .entry)) 0 (printed writesLetter sheetText (reply a) (now (sheet .entry))) r (now (out .exit)) ⌝ }
+    ensures { λ r. ⌜ ReplyStands (now (out .entry)) (printed writesLetter sheetText (reply a) (now (sheet .entry))) r (now (out .exit)) ⌝ }
 {
     let r = reply_of(a);
     let n = r.value;
@@ -80,7 +80,7 @@ fn register_line(line: &[u8], from: usize, reg: &mut [u8], nodes: &[u16], out: &
 // "W writes".
 fn write_line(reg: &[u8], nodes: &[u16], sheet: &mut [u8], out: &mut [u8]) -> usize
     requires { ⌜ headRoom + 1 + 2 * length (now sheet) + 1 ≤ length (now out) ⌝ }
-    ensures { λ r. ⌜ Put (now (out .entry)) 0 (writeLine (tables (now (reg .entry)) (now (nodes .entry))) (now (sheet .entry)) .says) r (now (out .exit)) ⌝
+    ensures { λ r. ⌜ ReplyStands (now (out .entry)) (writeLine (tables (now (reg .entry)) (now (nodes .entry))) (now (sheet .entry)) .says) r (now (out .exit)) ⌝
         ∗ ⌜ now (sheet .exit) ≡ memory (writing (tables (now (reg .entry)) (now (nodes .entry))) (now (sheet .entry))) (now (sheet .entry)) ⌝ }
 {
     let a = catalogue::write_sheet(reg, nodes, sheet);

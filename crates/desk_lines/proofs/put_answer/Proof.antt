@@ -1,5 +1,5 @@
 -- The number and the value printed are those that the answer means in the paper.
-use Rattle.desk_replies.proofs.Replies.{put-same}
+use Rattle.desk_replies.proofs.Replies.{reply-same}
 use borrow.Author.Needs.{needs}
 use Rattle.desk_lines.proofs.put_answer.Statement.{statement}
 use Rattle.desk_lines.proofs.put_answer.Tie as tie
@@ -17,7 +17,7 @@ same-length : tie.Need-same-length
 same-length c = search needs
 
 returns : tie.Need-returns
-returns c = put-same (c .before .before .put-reply .ensures) (cc)
+returns c = reply-same (c .before .before .put-reply .ensures) (cc)
 
 pub put-answer-spec : {M : Type 1} → statement M
 put-answer-spec =
