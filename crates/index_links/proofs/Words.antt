@@ -16,18 +16,22 @@ use Rattle.index_links.specs.Links.{linkTo, link, unlink}
 next-laid : (N : List ℕ) (a : ℕ) (bs : List ℕ) (k b : ℕ) → k ≡ a + length bs → set (laid N a bs) k b ≡ laid N a (bs ++ (b ∷ []))
 next-laid N a bs k b e = rw e (laid-set N a bs b)
 
-pub six-laid : (N : List ℕ) (a u v w x y z : ℕ) →
-    set (set (set (set (set (set N (a + 0) u) (a + 1) v) (a + 2) w) (a + 3) x) (a + 4) y) (a + 5) z ≡ laid N (a + 0)
-    (u ∷ v ∷ w ∷ x ∷ y ∷ z ∷ [])
-six-laid N a u v w x y z =
-    let b : ℕ = a + 0 in
+pub six-laid : (N : List ℕ) (f u v w x y z : ℕ) {A B C D E F : List ℕ} → A ≡ set N (at f 0) u → B ≡ set A (at f 1) v → C ≡ set B (at f 2) w →
+    D ≡ set C (at f 3) x → E ≡ set D (at f 4) y → F ≡ set E (at f 5) z → F ≡ laid N (at f parentWord) (u ∷ v ∷ w ∷ x ∷ y ∷ z ∷ [])
+six-laid N f u v w x y z hA hB hC hD hE hF =
     rw (
-      laid-one N (a + 0) u,
-      next-laid N (a + 0) (u ∷ []) (a + 1) v (omega arith),
-      next-laid N (a + 0) (u ∷ v ∷ []) (a + 2) w (omega arith),
-      next-laid N (a + 0) (u ∷ v ∷ w ∷ []) (a + 3) x (omega arith),
-      next-laid N (a + 0) (u ∷ v ∷ w ∷ x ∷ []) (a + 4) y (omega arith),
-      next-laid N (a + 0) (u ∷ v ∷ w ∷ x ∷ y ∷ []) (a + 5) z (omega arith),
+      hF,
+      hE,
+      hD,
+      hC,
+      hB,
+      hA,
+      laid-one N (at f 0) u,
+      next-laid N (at f 0) (u ∷ []) (at f 1) v (omega arith),
+      next-laid N (at f 0) (u ∷ v ∷ []) (at f 2) w (omega arith),
+      next-laid N (at f 0) (u ∷ v ∷ w ∷ []) (at f 3) x (omega arith),
+      next-laid N (at f 0) (u ∷ v ∷ w ∷ x ∷ []) (at f 4) y (omega arith),
+      next-laid N (at f 0) (u ∷ v ∷ w ∷ x ∷ y ∷ []) (at f 5) z (omega arith),
     )
 
 -- a list with something laid over it, element by element

@@ -8,7 +8,7 @@ use lib.ListN.{length, set, length-set}
 use lib.Seq.{getD-set-same, getD-set-other}
 use Rattle.nodes.specs.Nodes.{at, tagWord, parent, child, next, label, depth, tag, size, path, rowOf}
 use Rattle.nodes.specs.Inner.{Used, Live, Zero, OnChain, here, later, Good, Head, Shape}
-use Rattle.index_links.proofs.Splice.{zeros}
+use Rattle.index_links.proofs.Splice.{Pending, zeros}
 
 module _ (N : List ℕ) (p t : ℕ) where
   abbrev M : List ℕ
@@ -20,13 +20,13 @@ module _ (N : List ℕ) (p t : ℕ) where
   retag-size : size M ≡ size N
   retag-size = omega (arith, retag-length)
 
-  pub retag-parent : (i : ℕ) → parent M i ≡ parent N i
+  retag-parent : (i : ℕ) → parent M i ≡ parent N i
   retag-parent i = getD-set-other N (at p tagWord) (at i 0) t 0 (omega arith)
 
-  pub retag-child : (i : ℕ) → child M i ≡ child N i
+  retag-child : (i : ℕ) → child M i ≡ child N i
   retag-child i = getD-set-other N (at p tagWord) (at i 1) t 0 (omega arith)
 
-  pub retag-next : (i : ℕ) → next M i ≡ next N i
+  retag-next : (i : ℕ) → next M i ≡ next N i
   retag-next i = getD-set-other N (at p tagWord) (at i 2) t 0 (omega arith)
 
   pub retag-label : (i : ℕ) → label M i ≡ label N i
@@ -76,6 +76,10 @@ module _ (N : List ℕ) (p t : ℕ) where
         greater = rw (x, retag-label i, retag-label (next N i)) (g .greater);
         chained = rw (e, retag-child (parent N i)) (chains (g .chained));
       }
+
+  -- which other nodes have no child, and their tags, stay
+  pub retag-pending : Pending N p → Pending M p
+  retag-pending P i u n c = omega (arith, retag-other i n, P i (retag-from i u) n (sym (retag-child i) ∙ c))
 
   -- the node is the root or used: a free node has no tag
   pub retag-shape : {parts : ℕ} → Shape parts N → Live N p → Shape parts M
