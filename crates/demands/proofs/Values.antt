@@ -6,6 +6,7 @@ use mathlib.Core.List.{List, [], _∷_, _++_, map, append-assoc, append-nil, Lis
 use Prim.Native.Nat.{ℕ, suc, _+_, _*_, _≤_, _<_}
 use native.Mathlib.Nat.{suc-mul}
 use native.Mathlib.Omega.{arith}
+use Rattle.ground.specs.Limits.{twoLimit}
 use lib.ListN.{length, getD, length-append, length-map}
 use borrow.Author.Tests.{not-false, ltb-false}
 use Rattle.ground.specs.Lists.{anyb, concat, eqList}
@@ -31,7 +32,7 @@ use Rattle.index.specs.Index.{entryRefusals, missingRefusals}
 use Rattle.questions.specs.Questions.{isWithin, isContaining, fitting, anyOf, allOf}
 use Rattle.questions.proofs.Meaning.{fitting-exactly}
 use Rattle.shortfalls.specs.Shortfalls.{isAlmost}
-use Rattle.sheet.specs.Bytes.{inBytes, two, twoLimit, Bytes}
+use Rattle.sheet.specs.Bytes.{inBytes, two, Bytes}
 use Rattle.sheet.specs.Sheet.{Contents, contentsOf, placeBytes, numberItem, numberItems, recordItem, recordItems, encode, nodesNeeded}
 use Rattle.sheet.specs.Inner.{goodKit}
 use Rattle.sheet.specs.Reading.{decode, said}

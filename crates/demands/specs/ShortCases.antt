@@ -66,8 +66,7 @@ askedAlmost d rs r =
     (answer p, memory p o)
 
 -- (1) and (1, 1, 1) lack one unit and three, and three units too many of another part pay for none; (1, 1) and (1, 3) lack one each,
--- whichever part
--- it is. Proof: proofs/ShortCases, `almost-cases`
+-- whichever part it is. Proof: proofs/ShortCases, `almost-cases`
 abbrev pub AlmostCases : Type 0
 AlmostCases =
     (askedAlmost 0 ((1 ∷ []) ∷ (1 ∷ 1 ∷ 1 ∷ []) ∷ []) (2 ∷ 2 ∷ 2 ∷ []) ≡ (done 0, both (0 ∷ 0 ∷ []) (9 ∷ 9 ∷ [])))

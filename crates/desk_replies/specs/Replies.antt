@@ -19,7 +19,7 @@ decimal n = digits (suc n) n
 
 -- "capital hex": 0 to 9, then A to F
 unfoldable pub hexDigit : ℕ → ℕ
-hexDigit d = cond (ltb d 10) (zeroDigit + d) (55 + d)
+hexDigit d = cond (ltb d 10) (zeroDigit + d) (0x41 - 10 + d)
 
 unfoldable pub hexOf : List ℕ → List ℕ
 hexOf [] = []
@@ -40,7 +40,7 @@ replyLine letter number value rest = replyHead letter number value ++ (rest ++ (
 
 -- "Other lines answer `?`"
 abbrev pub otherLine : List ℕ
-otherLine = 63 ∷ lineFeed ∷ []
+otherLine = 0x3F ∷ lineFeed ∷ []
 
 -- a reply stands at the start of an output, r bytes long and whole; the rest is as it was
 pub record ReplyStands (old bs : List ℕ) (r : ℕ) (new : List ℕ) : Type 0 where

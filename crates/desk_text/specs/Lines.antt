@@ -10,10 +10,10 @@ use Rattle.desk_text.specs.Amounts.{amountOf, goodAmount}
 use Rattle.desk_text.specs.Letters.{registers, inserts, writes, takesList}
 
 abbrev pub space : ℕ
-space = 32
+space = 0x20
 
 abbrev pub lineFeed : ℕ
-lineFeed = 10
+lineFeed = 0x0A
 
 -- "A line is at most 512 bytes before its line feed"
 abbrev pub longestLine : ℕ

@@ -1,6 +1,5 @@
 -- Document 01, "Deletion clears the tag, then from that node upwards zeroes and unlinks each node but the root that has neither tag nor
--- child, and
--- stops at the first that must stay", word for word.
+-- child, and stops at the first that must stay", word for word.
 use mathlib.Core.Bool.{_&&_, cond}
 use mathlib.Core.List.{List}
 use Prim.Native.Nat.{ℕ, zero, suc}

@@ -2,6 +2,7 @@
 ghost use mathlib.Core.Path.{_≡_};
 ghost use mathlib.Core.List.{[], _∷_};
 ghost use Prim.Native.Nat.{_<_};
+ghost use Rattle.ground.specs.Limits.{twoLimit};
 ghost use lib.ListN.{length, set};
 ghost use Rattle.ground.specs.Laid.{laid};
 ghost use Rattle.nodes.specs.Nodes.{wordsPerNode, at, parentWord, tagWord, size, children};
@@ -22,7 +23,7 @@ use nodes::parent_at;
 
 // A number that a word can hold, as a word.
 fn narrow16(x: usize) -> u16
-    requires { ⌜ x < 65536 ⌝ }
+    requires { ⌜ x < twoLimit ⌝ }
     ensures { λ r. ⌜ r ≡ x ⌝ }
 {
     x as u16

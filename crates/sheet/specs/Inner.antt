@@ -6,11 +6,10 @@ use Prim.Native.Nat.{ℕ, zero, suc, _+_, _*_, _≤_}
 use lib.ListN.{length, take, drop, getD}
 use lib.Dec.{leb, ltb, eqb}
 use Rattle.ground.specs.Lists.{allb, every, distinct, eqList}
-use Rattle.ground.specs.Limits.{mostParts}
+use Rattle.ground.specs.Limits.{mostParts, twoLimit}
 use Rattle.register.specs.Number.{goodNumber}
 use Rattle.kits.specs.Kits.{goodList, listOf, before, mostUnits}
 use Rattle.nodes.specs.Held.{Kit, tagsOf}
-use Rattle.sheet.specs.Bytes.{twoLimit}
 use Rattle.sheet.specs.Sheet.{Contents, placeBytes, lineBytes, countAt, linesAt}
 use Rattle.sheet.specs.Reading.{recordSize}
 

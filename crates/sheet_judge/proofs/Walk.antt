@@ -5,6 +5,7 @@ use mathlib.Core.List.{List, [], _∷_, _++_}
 use Prim.Native.Nat.{ℕ, suc, _+_, _-_, _*_, _≤_, _<_}
 use native.Mathlib.Nat.{sub-zero}
 use native.Mathlib.Omega.{arith}
+use Rattle.ground.specs.Limits.{twoLimit}
 use lib.ListN.{length, take, drop, getD, set, length-drop, length-append, length-set, drop-of-length-le}
 use lib.Dec.{eqb}
 use lib.Seq.{drop-drop, getD-set-same, getD-set-other}
@@ -15,7 +16,7 @@ use Rattle.kits.specs.Inner.{agreed, unitsIn, fixedRow}
 use Rattle.kits.specs.declared.Row.{Row}
 use Rattle.kits.proofs.Rows.{row-back}
 use Rattle.nodes.specs.Held.{Kit, allBeginnings}
-use Rattle.sheet.specs.Bytes.{fromBytes, twoLimit, Bytes, twoBytes}
+use Rattle.sheet.specs.Bytes.{fromBytes, Bytes, twoBytes}
 use Rattle.sheet.specs.Sheet.{Contents, placeBytes}
 use Rattle.sheet.specs.Inner.{rising, headBytes}
 use Rattle.sheet.specs.Reading.{item, fault, onward, one, anyTwo, numbers, decode, recordSize, kitIn, hasTag, newKit, Run, stop, also, unless, records, whole}

@@ -6,13 +6,13 @@ use mathlib.Core.List.{List, [], _∷_}
 use Prim.Native.Nat.{ℕ, _+_, _-_, _≤_, _<_}
 use lib.ListN.{length, drop, getD}
 use lib.Dec.{leb}
-use Rattle.ground.specs.Limits.{mostParts}
+use Rattle.ground.specs.Limits.{mostParts, twoLimit}
 use Rattle.ground.specs.Lists.{anyb, isZero}
 use Rattle.kits.specs.Kits.{goodList, units, mostUnits}
 use Rattle.kits.specs.Inner.{agreed, unitsIn}
 use Rattle.kits.specs.declared.Row.{Row}
 use Rattle.nodes.specs.Held.{Kit}
-use Rattle.sheet.specs.Bytes.{fromBytes, twoBytes, twoLimit}
+use Rattle.sheet.specs.Bytes.{fromBytes, twoBytes}
 use Rattle.sheet.specs.Sheet.{Contents, placeBytes, nodesNeeded}
 use Rattle.sheet.specs.Inner.{headBytes}
 use Rattle.sheet.specs.Reading.{Item, item, fault, Reading, onward, one, bytes, anyTwo, numbers, hasTag, records, whole, decode}

@@ -4,6 +4,7 @@ use mathlib.Core.Bool.{true, not}
 use mathlib.Core.List.{List, map, List·Memᴰ, Memᴰ·of-map}
 use Prim.Native.Nat.{ℕ, _≤_, _<_}
 use native.Mathlib.Omega.{arith}
+use Rattle.ground.specs.Limits.{twoLimit}
 use lib.ListN.{length, getD, length-map}
 use borrow.Author.Tests.{le-ltb}
 use Rattle.ground.specs.Lists.{allb, distinct, eqList, keep, from}
@@ -23,7 +24,7 @@ use Rattle.nodes.proofs.Lists.{kept-and-not}
 use Rattle.nodes.proofs.Sorted.{rising-weaken, no-longer, from-mem, mem-allb}
 use Rattle.nodes.proofs.Listing.{earlier-other, order-mem}
 use Rattle.nodes.proofs.Held.{held-rises, held-holds, held-good, held-tagged, held-tags-differ}
-use Rattle.sheet.specs.Bytes.{twoLimit, Bytes}
+use Rattle.sheet.specs.Bytes.{Bytes}
 use Rattle.sheet.specs.Sheet.{Contents, contentsOf, encode}
 use Rattle.sheet.specs.Inner.{goodKit, fitsSheet}
 use Rattle.sheet.specs.Reading.{decode, isFault, said}

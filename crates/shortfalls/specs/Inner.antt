@@ -79,8 +79,7 @@ abbrev pub PutIn : List ℕ → ℕ → List ℕ → List ℕ → List ℕ → �
 PutIn Q d N o p r o′ p′ = PutNodes Q N o p 0 (foundIn (almost Q d) N) r o′ p′
 
 -- What the walk knows at a link: what the row of the node above has made of the labels, and that its shortfall is at most d. So no link is
--- followed
--- from a node whose row has a greater one.
+-- followed from a node whose row has a greater one.
 pub record AtLink (N Q : List ℕ) (d at : ℕ) (p : Passed) : Type 0 where
   pub shape : Shape mostPlace N
   pub live : Live N at
