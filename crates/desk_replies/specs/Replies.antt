@@ -1,7 +1,7 @@
 -- Document 01, "The desk program": the reply line.
 use mathlib.Core.Bool.{cond}
 use mathlib.Core.List.{List, [], _∷_, _++_}
-use Prim.Native.Nat.{ℕ, zero, suc, _+_, _/_, _%_, _≤_}
+use Prim.Native.Nat.{ℕ, zero, suc, _+_, _-_, _/_, _%_, _≤_}
 use lib.ListN.{length}
 use lib.Dec.{ltb}
 use Rattle.ground.specs.Laid.{Put}
