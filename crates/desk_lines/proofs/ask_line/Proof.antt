@@ -44,13 +44,7 @@ reply-of-requires : tie.Need-reply-of-requires
 reply-of-requires c κs = search needs
 
 array-share-prefix-list : tie.Need-array-share-prefix-list
-array-share-prefix-list c =
-    let at-reply-of : tie.After-reply-of = search in
-    let else1 : tie.Else1 = search in
-    let at-refused : tie.After-refused = search in
-    let at-read-list : tie.After-read-list = search in
-    read-inside _ _ _ _ _ (at-read-list .read-list .ensures) _ (at-refused .refused .ensures) (else1 .if1 .left) _
-    (at-reply-of .reply-of .ensures .value)
+array-share-prefix-list c = search read-inside
 
 slice-aggregate-ask : tie.Need-slice-aggregate-ask
 slice-aggregate-ask c =

@@ -49,10 +49,7 @@ put-kit-requires c κs =
     (rw (c .row-at .ensures .0) (c .row-at .ensures .1), rw (own c) (start .pre .1 .1))
 
 same-length : tie.Need-same-length
-same-length c =
-    let at-row-at : tie.After-row-at = search in
-    let start : tie.Start = search in
-    put-length (c .before .before .put-kit .ensures)
+same-length c = search put-length
 
 returns-2 : tie.Need-returns-2
 returns-2 c =

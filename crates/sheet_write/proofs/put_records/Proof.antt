@@ -70,9 +70,7 @@ part-put-kits-end : tie.Need-part-put-kits-end
 part-put-kits-end c = search needs
 
 child-at-requires : tie.Need-child-at-requires
-child-at-requires c κs =
-    let start : tie.Start = search in
-    root-inside (start .pre .0)
+child-at-requires c κs = search root-inside
 
 put-kits-requires : tie.Need-put-kits-requires
 put-kits-requires c κs =
@@ -86,9 +84,7 @@ add-result c =
     omega (arith, first at-slice-known2 .room, first at-slice-known2 .size, below c .behind)
 
 same-length : tie.Need-same-length
-same-length c =
-    let start : tie.Start = search in
-    put-length (both c)
+same-length c = search put-length
 
 returns : tie.Need-returns
 returns c = both c
