@@ -6,9 +6,9 @@ use mathlib.Core.List.{List, [], _∷_, _++_, map, append-assoc, append-nil, Lis
 use Prim.Native.Nat.{ℕ, suc, _+_, _*_, _≤_, _<_}
 use native.Mathlib.Nat.{suc-mul}
 use native.Mathlib.Omega.{arith}
-use Rattle.ground.specs.Limits.{twoLimit}
 use lib.ListN.{length, getD, length-append, length-map}
 use borrow.Author.Tests.{not-false, ltb-false}
+use Rattle.ground.specs.Limits.{twoLimit}
 use Rattle.ground.specs.Lists.{anyb, concat, eqList}
 use Rattle.ground.specs.Calls.{Case, Reply, refused, isRefused, valueOf, decide, answer, setDown, Both, setBoth}
 use Rattle.ground.proofs.Laws.{by-cond}

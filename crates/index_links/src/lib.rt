@@ -2,8 +2,8 @@
 ghost use mathlib.Core.Path.{_≡_};
 ghost use mathlib.Core.List.{[], _∷_};
 ghost use Prim.Native.Nat.{_<_};
-ghost use Rattle.ground.specs.Limits.{twoLimit};
 ghost use lib.ListN.{length, set};
+ghost use Rattle.ground.specs.Limits.{twoLimit};
 ghost use Rattle.ground.specs.Laid.{laid};
 ghost use Rattle.nodes.specs.Nodes.{wordsPerNode, at, parentWord, tagWord, size, children};
 ghost use Rattle.index_links.specs.Links.{childWith, lastBelow, linkTo, link as linked, unlink as unlinked};

@@ -6,11 +6,11 @@ use Prim.Native.Nat.{ℕ, zero, suc, _+_, _-_, _*_, _≤_, _<_}
 use native.Mathlib.Nat.{add-zero, sub-zero}
 use native.Mathlib.Numerals.{add-one}
 use native.Mathlib.Omega.{arith}
-use Rattle.ground.specs.Limits.{byteLimit}
 use lib.ListN.{length, take, drop, getD, set, replicate, length-drop, length-take, length-replicate}
 use lib.Dec.{leb}
 use lib.Seq.{take-at, take-suc, take-all, length-take-le, drop-drop, getD-drop, getD-take, take-take, drop-cons}
 use borrow.Author.Tests.{le-leb, lt-leb, leb-true}
+use Rattle.ground.specs.Limits.{byteLimit}
 use Rattle.ground.specs.Laid.{laid}
 use Rattle.ground.proofs.Laid.{laid-front, laid-nil, laid-set}
 use Rattle.kits.specs.Kits.{units}

@@ -5,11 +5,11 @@ use mathlib.Core.List.{List, [], _∷_, _++_}
 use Prim.Native.Nat.{ℕ, suc, _+_, _-_, _*_, _≤_, _<_}
 use native.Mathlib.Nat.{sub-zero}
 use native.Mathlib.Omega.{arith}
-use Rattle.ground.specs.Limits.{twoLimit}
 use lib.ListN.{length, take, drop, getD, set, length-drop, length-append, length-set, drop-of-length-le}
 use lib.Dec.{eqb}
 use lib.Seq.{drop-drop, getD-set-same, getD-set-other}
 use borrow.Author.Tests.{eq-eqb, ne-eqb, eqb-true, eqb-false}
+use Rattle.ground.specs.Limits.{twoLimit}
 use Rattle.ground.specs.Lists.{anyb, isZero}
 use Rattle.kits.specs.Kits.{units, mostUnits}
 use Rattle.kits.specs.Inner.{agreed, unitsIn, fixedRow}

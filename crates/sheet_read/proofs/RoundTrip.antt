@@ -4,9 +4,9 @@ use mathlib.Core.Bool.{true, not}
 use mathlib.Core.List.{List, map, List·Memᴰ, Memᴰ·of-map}
 use Prim.Native.Nat.{ℕ, _≤_, _<_}
 use native.Mathlib.Omega.{arith}
-use Rattle.ground.specs.Limits.{twoLimit}
 use lib.ListN.{length, getD, length-map}
 use borrow.Author.Tests.{le-ltb}
+use Rattle.ground.specs.Limits.{twoLimit}
 use Rattle.ground.specs.Lists.{allb, distinct, eqList, keep, from}
 use Rattle.ground.specs.Laid.{laid}
 use Rattle.ground.specs.Calls.{done, answer, decide, memory}

@@ -1,6 +1,6 @@
 -- One byte set is one byte laid, and the position behind it is the next.
-use Rattle.ground.proofs.Put.{put-one}
 use borrow.Author.Needs.{needs}
+use Rattle.ground.proofs.Put.{put-one}
 use Rattle.desk_replies.proofs.put_byte.Statement.{statement}
 use Rattle.desk_replies.proofs.put_byte.Tie as tie
 

@@ -1,7 +1,7 @@
 -- Two bytes, one behind the other.
 use native.Mathlib.Omega.{arith}
-use Rattle.ground.proofs.Put.{put-put}
 use borrow.Author.Needs.{needs}
+use Rattle.ground.proofs.Put.{put-put}
 use Rattle.desk_replies.proofs.put_other.Statement.{statement}
 use Rattle.desk_replies.proofs.put_other.Tie as tie
 
