@@ -41,9 +41,7 @@ slice-aggregate-copy-in c = search needs
 
 copy-in-requires : tie.Need-copy-in-requires
 unfolding headItems inBytes
-copy-in-requires c κs =
-    let start : tie.Start = search in
-    omega (arith, start .pre)
+copy-in-requires c κs = omega arith
 
 sub-put-two : tie.Need-sub-put-two
 sub-put-two c =

@@ -51,8 +51,7 @@ records-size-requires c κs =
     start .pre .1 .shape
 
 add-need-3 : tie.Need-add-need-3
-add-need-3 c =
-    omega (arith, c .records-size .ensures .1, c .before .numbers-size .ensures .1, c .before .before .count-parts .ensures .1)
+add-need-3 c = omega arith
 
 returns : tie.Need-returns
 returns c =
@@ -61,9 +60,7 @@ returns c =
     (c .if1 .taken)
 
 cast-new : tie.Need-cast-new
-cast-new c =
-    let at-count-parts : tie.After-count-parts = search in
-    omega (arith, at-count-parts .count-parts .ensures .1)
+cast-new c = omega arith
 
 count-kits-requires : tie.Need-count-kits-requires
 count-kits-requires c κs =
