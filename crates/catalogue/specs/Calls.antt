@@ -1,6 +1,5 @@
 -- Document 01, "Calls and what they answer": the calls that are lent both tables, each as the list of its refusals in the paper's order,
--- its value,
--- and what it leaves in the memory that it may write.
+-- its value, and what it leaves in the memory that it may write.
 use mathlib.Core.Bool.{Bool}
 use mathlib.Core.List.{List, [], _∷_, _++_}
 use Prim.Native.Nat.{ℕ}
@@ -67,8 +66,7 @@ unfoldable pub allKits : (List ℕ → Kit → Bool) → List ℕ → Tables →
 allKits question l T o = setDown (lentList T l) (allOf question l (T .nodes)) o
 
 -- "list the tags of exactly those kits whose shortfall is at most d .. with the shortfall of each in a second lent output": "new 14, d
--- above 64, after
--- the list checks and before 12"
+-- above 64, after the list checks and before 12"
 unfoldable pub almostKits : ℕ → List ℕ → Tables → Both → Plan Both
 almostKits d l T o = listAlmost (lentList T l ++ (given (ltb mostShort d) 14 0 ∷ [])) d l (T .nodes) o
 

@@ -7,7 +7,7 @@ use mathlib.Core.List.{List, [], _∷_, _++_, List·Memᴰ}
 use Prim.Native.Nat.{ℕ, _+_, _*_, _^_, _≤_, _<_}
 use lib.ListN.{length, take, drop, getD, replicate}
 use lib.Dec.{ltb}
-use Rattle.ground.specs.Limits.{mostParts}
+use Rattle.ground.specs.Limits.{mostParts, twoLimit}
 use Rattle.ground.specs.Lists.{keep}
 use Rattle.ground.specs.Calls.{given, Plan, Reply, done, refused, valueOf, decide, answer, memory, Promise, Given, setDown, Both, both, setBoth}
 use Rattle.register.specs.Register.{slotBytes}
@@ -16,7 +16,7 @@ use Rattle.nodes.specs.Nodes.{wordsPerNode, mostNodes, usedNodes}
 use Rattle.nodes.specs.Held.{Kit, inOrder, dropKit, tagIn, tagsOf, firstTag, listed, allBeginnings}
 use Rattle.questions.specs.Questions.{isWithin, isContaining, fitting}
 use Rattle.shortfalls.specs.Shortfalls.{mostShort, shortfall, isAlmost, shortsOf, OfOne}
-use Rattle.sheet.specs.Bytes.{Bytes, twoLimit}
+use Rattle.sheet.specs.Bytes.{Bytes}
 use Rattle.sheet.specs.Sheet.{Contents, encode}
 use Rattle.sheet.specs.Reading.{decode, said}
 use Rattle.ground.specs.Tables.{Tables, tables}
@@ -30,14 +30,12 @@ use Rattle.catalogue.specs.Calls.{anyKit, allKits, almostKits, writing, 
 -- `requires`, and the check of each function shows that it ends and stays inside its memory.
 
 -- "A call is refused in the cases laid down and in no others, with the number laid down": a call is refused with number n and value v
--- exactly
--- when, of its refusals in the paper's order, the first that is given has them. Proof: Refusals, `refused-exactly`
+-- exactly when, of its refusals in the paper's order, the first that is given has them. Proof: Refusals, `refused-exactly`
 abbrev pub RefusedExactly : Type 0
 RefusedExactly = (c : Call) (T : Tables) (n v : ℕ) → (answer (planOf c T) ≡ refused n v) ↔ Given n v (planOf c T .cases)
 
 -- (crates/demands, specs/Told says the same from any list of calls: each reply in terms of what the accepted calls left; specs/ShortCases
--- has the
--- document's own examples.)
+-- has the document's own examples.)
 
 -- "and then the tables .. are byte for byte what they were". Proof: Refusals, `refusal-keeps`
 abbrev pub RefusalKeeps : Type 0
@@ -70,8 +68,7 @@ RefusalKeepsOutput =
 
 -- WHAT A CATALOGUE HAS
 -- "what a catalogue has is what its accepted calls entered or read, less what later calls struck out, cleared or replaced by reading a
--- sheet":
--- read off the calls and their replies, never off a table
+-- sheet": read off the calls and their replies, never off a table
 abbrev pub has : List (List ℕ) → List Kit → Contents
 has ps ks = record { parts = ps; kits = ks }
 
@@ -141,8 +138,7 @@ HasWhatWasEntered = (a : Catalogue) → Allowed a → contents (tablesOf a) ≡ 
 
 -- DEMAND 2
 -- "A kit fits a bin exactly when, for each part, the kit's quantity is no more than the bin's": the kits listed within a bin are exactly
--- the
--- held kits of which that is so. Proof: Questions, `fits-exactly`
+-- the held kits of which that is so. Proof: Questions, `fits-exactly`
 abbrev pub FitsExactly : Type 0
 FitsExactly = (bin N : List ℕ) (k : Kit) → List·Memᴰ k (fitting isWithin bin N) ↔ (List·Memᴰ k (listed N) × Within (k .row) (units bin))
 
@@ -238,8 +234,7 @@ AllAnswers =
     × (memory (allKits question l (tablesOf a) o) o ≡ memory (listingOf question l (entered a) o) o)
 
 -- REQUEST 1, "a list of kits that a bin almost fills", in terms of what the accepted calls left: the kits are `answering (isAlmost d)`, so
--- what is said
--- above of every question holds of it, the fixed order and each kit once too.
+-- what is said above of every question holds of it, the fixed order and each kit once too.
 -- "exactly those kits whose shortfall is at most d". Proof: Almost, `answering-almost`
 abbrev pub AnsweringAlmost : Type 0
 AnsweringAlmost =
@@ -260,8 +255,7 @@ ZeroIsWithin =
     (ks ≡ answering isWithin bin (entered a)) × (shortsOf (units bin) ks ≡ replicate (length ks) 0)
 
 -- with a greater d nothing leaves the listing: what is listed for d is what of the listing for e has a shortfall of at most d. Proof:
--- Almost,
--- `nothing-leaves`
+-- Almost, `nothing-leaves`
 abbrev pub NothingLeaves : Type 0
 NothingLeaves =
     (d e : ℕ) (bin : List ℕ) (m : Contents) → d ≤ e →
@@ -336,8 +330,7 @@ NoSecond =
 
 -- WHAT THE PROMISES PIN
 -- Document 01, "What the promises pin": "for every input, refused ones too, each public promise determines the answer and every lent word
--- and
--- byte afterwards". Proof: Refusals, `tables-pinned`, `output-pinned`
+-- and byte afterwards". Proof: Refusals, `tables-pinned`, `output-pinned`
 abbrev pub TablesPinned : Type 0
 TablesPinned = (c : Call) (T U W : Tables) (r s : Reply) → Promise (planOf c T) T r U → Promise (planOf c T) T s W → (r ≡ s) × (U ≡ W)
 
@@ -347,10 +340,8 @@ OutputPinned =
     (r ≡ s) × (p ≡ q)
 
 -- "Made-up counts fall with the table": "nodes used are always 1 plus the number of different nonempty beginnings of held kits", and "nodes
--- taken
--- are the growth of the beginnings", in terms of the kits entered. (A listing's value is in `AllAnswers`; "kits read are the sheet's
--- records", in
--- the plan of reading.) Proof: Counts, `nodes-counted`, `nodes-taken`
+-- taken are the growth of the beginnings", in terms of the kits entered. (A listing's value is in `AllAnswers`; "kits read are the sheet's
+-- records", in the plan of reading.) Proof: Counts, `nodes-counted`, `nodes-taken`
 abbrev pub NodesCounted : Type 0
 NodesCounted = (a : Catalogue) → Allowed a → length (usedNodes (tablesOf a .nodes)) ≡ 1 + length (allBeginnings (entered a .kits))
 
@@ -360,8 +351,7 @@ NodesTaken =
     (allBeginnings (record { row = units l; tag = t } ∷ entered a .kits)) ≡ length (allBeginnings (entered a .kits)) + v
 
 -- "Each answer is a number (0 for done) and a value below 2^32", whatever is lent: the types say that the node table is 16-bit words and a
--- sheet
--- bytes. Proof: Values, `values-fit`
+-- sheet bytes. Proof: Values, `values-fit`
 abbrev pub ValuesFit : Type 0
 ValuesFit =
     (c : Call) (T : Tables) → ((i : ℕ) → getD (T .nodes) i 0 < twoLimit) → ((s : List ℕ) → readSheet s ≡ c → Bytes s) → valueOf

@@ -100,8 +100,8 @@ module _ (cs : List Case) (bin : List ℕ) (ks : List Kit) (o p : List ℕ) (f :
   shown-both e =
       let t = tags-long ks in
       let s = shorts-long bin ks in
-      let u : laid o 0 (tagsOf ks) ≡ tagsOf ks ++ drop (length ks) o = laid-front o (tagsOf ks) ∙ ap (λ n. tagsOf ks ++ drop n o) t in
-      let v : laid p 0 (shortsOf bin ks) ≡ shortsOf bin ks ++ drop (length ks) p = laid-front p (shortsOf bin ks) ∙ ap
+      let u : laid o 0 (tagsOf ks) ≡ tagsOf ks ++ drop (length ks) o = laid-front o (tagsOf ks) (omega arith) ∙ ap (λ n. tagsOf ks ++ drop n o) t in
+      let v : laid p 0 (shortsOf bin ks) ≡ shortsOf bin ks ++ drop (length ks) p = laid-front p (shortsOf bin ks) (omega arith) ∙ ap
       (λ n. shortsOf bin ks ++ drop n p) s in
       rw (← u, ← v, ← t)
       (set-both-behind cs 0 (tagsOf ks) (shortsOf bin ks) (both o p) e

@@ -9,7 +9,7 @@ use lib.ListN.{length, replicate, length-replicate, length-append}
 use lib.Dec.{leb, eqb}
 use borrow.Author.Tests.{ltb-true, eqb-false, ltb-false, not-false, eq-eqb, le-leb}
 use Rattle.ground.specs.Lists.{every, distinct, from}
-use Rattle.ground.specs.Limits.{mostParts}
+use Rattle.ground.specs.Limits.{mostParts, twoLimit}
 use Rattle.ground.specs.Laid.{zeroed}
 use Rattle.ground.specs.Calls.{Case, Reply, done, refused, isRefused, decide, answer, leaves, memory}
 use Rattle.ground.proofs.Laws.{zeros-all, every-at}
@@ -36,7 +36,7 @@ use Rattle.index_insert.specs.Enter.{enter, lacks}
 use Rattle.index_delete.specs.Strike.{strike}
 use Rattle.index.specs.Inner.{insertingRow, deletingRow}
 use Rattle.index.proofs.Kept.{Accepted, accepted, deleting-tag, insert-growth, insert-sound, insert-length, held-after-insert, delete-sound, delete-length, held-after-delete}
-use Rattle.sheet.specs.Bytes.{Bytes, twoLimit}
+use Rattle.sheet.specs.Bytes.{Bytes}
 use Rattle.sheet.specs.Sheet.{Contents, encode}
 use Rattle.sheet.specs.Inner.{goodKit, fitsSheet}
 use Rattle.sheet.specs.Reading.{decode, said}

@@ -8,9 +8,10 @@ use lib.ListN.{length, take, drop}
 use lib.Seq.{length-take-le}
 use lib.Dec.{leb}
 use borrow.Author.Tests.{leb-true}
+use Rattle.ground.specs.Limits.{twoLimit}
 use Rattle.ground.specs.Lists.{eqList, isZero}
 use Rattle.nodes.specs.Held.{Kit}
-use Rattle.sheet.specs.Bytes.{fromBytes, Bytes, twoLimit}
+use Rattle.sheet.specs.Bytes.{fromBytes, Bytes}
 use Rattle.sheet.specs.Sheet.{Contents, mark, placeBytes}
 use Rattle.sheet.specs.Reading.{Item, item, fault, Reading, onward, one, bytes, isVersion, goodPartCount, anyTwo, numberSize, newNumber}
 use Rattle.sheet.specs.Reading.{numbers, recordSize, newKit, kitIn, Run, stop, also, unless, records, Front, front, runOf, whole, decode}

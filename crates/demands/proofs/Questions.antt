@@ -106,7 +106,7 @@ unfolding allKits allOf
 listing-shows question l o T s h =
     let ts = tagsOf (fitting question l (T .nodes)) in
     let p = set-down-behind (lentList T l) 0 ts o s (set-down-done ts o h) in
-    (sym (p .answers), sym (p .lent) ∙ laid-front o ts)
+    (sym (p .answers), sym (p .lent) ∙ laid-front o ts h)
 
 done-value : (v w : ℕ) → decide [] v ≡ done w → v ≡ w
 unfolding decide

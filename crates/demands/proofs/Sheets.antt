@@ -49,7 +49,7 @@ module _ {T : Tables} {m : Contents} (b : Brought T m) where
       let p : Promise (setDown [] S o) o (done (length S)) (laid o 0 S) = set-down-done S o h in
       record {
         written = write-answer o ∙ sym (p .answers);
-        is = ap (take (length S)) (write-memory o ∙ sym (p .lent) ∙ laid-front o S)
+        is = ap (take (length S)) (write-memory o ∙ sym (p .lent) ∙ laid-front o S h)
             ∙ take-append-seam S _;
       }
 

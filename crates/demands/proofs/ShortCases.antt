@@ -12,8 +12,8 @@ use Rattle.kits.specs.Kits.{lineValue, lineFaults, linesFaults, listFaults, uni
 use Rattle.nodes.specs.Nodes.{nodesLength, nodesOf, othersOf, zeroWord, isFree, isUsed, freeNodes, usedNodes, tagged, path, rowOf, chain, children}
 use Rattle.nodes.specs.Sound.{rootGood, parentGood, depthGood, labelGood, fewEqual, linksInside, childGood, nextGood, onChain, endTagged, tagsDiffer, usedOthers, nodesSound}
 use Rattle.nodes.specs.Held.{putKit, inOrder, tagIn, tagsOf, firstTag, kitAt, held}
-use Rattle.index_links.specs.Links.{hasLabel, childWith, lastBelow, linkTo, link, unlink}
-use Rattle.index_insert.specs.Enter.{lowestFree, enter, lacks, nodeOf}
+use Rattle.index_links.specs.Links.{hasLabel, childWith, nodeOf, lastBelow, linkTo, link, unlink}
+use Rattle.index_insert.specs.Enter.{lowestFree, enter, lacks}
 use Rattle.index_delete.specs.Strike.{prune, strikeAt, strike}
 use Rattle.index.specs.Index.{entryRefusals, missingRefusals}
 use Rattle.questions.specs.Questions.{isWithin, isContaining, fitting, anyOf, allOf}

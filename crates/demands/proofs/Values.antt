@@ -8,6 +8,7 @@ use native.Mathlib.Nat.{suc-mul}
 use native.Mathlib.Omega.{arith}
 use lib.ListN.{length, getD, length-append, length-map}
 use borrow.Author.Tests.{not-false, ltb-false}
+use Rattle.ground.specs.Limits.{twoLimit}
 use Rattle.ground.specs.Lists.{anyb, concat, eqList}
 use Rattle.ground.specs.Calls.{Case, Reply, refused, isRefused, valueOf, decide, answer, setDown, Both, setBoth}
 use Rattle.ground.proofs.Laws.{by-cond}
@@ -31,12 +32,13 @@ use Rattle.index.specs.Index.{entryRefusals, missingRefusals}
 use Rattle.questions.specs.Questions.{isWithin, isContaining, fitting, anyOf, allOf}
 use Rattle.questions.proofs.Meaning.{fitting-exactly}
 use Rattle.shortfalls.specs.Shortfalls.{isAlmost}
-use Rattle.sheet.specs.Bytes.{inBytes, two, twoLimit, Bytes}
+use Rattle.sheet.specs.Bytes.{inBytes, two, Bytes}
 use Rattle.sheet.specs.Sheet.{Contents, contentsOf, placeBytes, numberItem, numberItems, recordItem, recordItems, encode, nodesNeeded}
 use Rattle.sheet.specs.Inner.{goodKit}
 use Rattle.sheet.specs.Reading.{decode, said}
 use Rattle.sheet.specs.Calls.{sheetRefusals, roomRefusals}
-use Rattle.sheet_write.proofs.Records.{number-size, record-size, lines-few}
+use Rattle.sheet.proofs.Lines.{record-size, lines-few}
+use Rattle.sheet_write.proofs.Records.{number-size}
 use Rattle.sheet_read.proofs.Listed.{Fits, fitting-fits, kit-fits}
 use Rattle.sheet_read.proofs.Reading.{said-again}
 use Rattle.sheet_read.proofs.RoundTrip.{SmallTags, words-small, catalogue-fits}

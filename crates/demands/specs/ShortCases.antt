@@ -23,7 +23,7 @@ holding rs =
     tablesOf (record {
       slots = 3;
       room = 4;
-      calls = registerPart (65 ∷ []) ∷ registerPart (66 ∷ []) ∷ registerPart (67 ∷ []) ∷ insertRows 1 rs;
+      calls = registerPart (0x41 ∷ []) ∷ registerPart (0x42 ∷ []) ∷ registerPart (0x43 ∷ []) ∷ insertRows 1 rs;
     })
 
 -- all kits that answer a question on some units: the reply, and an output of two places
@@ -66,8 +66,7 @@ askedAlmost d rs r =
     (answer p, memory p o)
 
 -- (1) and (1, 1, 1) lack one unit and three, and three units too many of another part pay for none; (1, 1) and (1, 3) lack one each,
--- whichever part
--- it is. Proof: proofs/ShortCases, `almost-cases`
+-- whichever part it is. Proof: proofs/ShortCases, `almost-cases`
 abbrev pub AlmostCases : Type 0
 AlmostCases =
     (askedAlmost 0 ((1 ∷ []) ∷ (1 ∷ 1 ∷ 1 ∷ []) ∷ []) (2 ∷ 2 ∷ 2 ∷ []) ≡ (done 0, both (0 ∷ 0 ∷ []) (9 ∷ 9 ∷ [])))
@@ -79,10 +78,10 @@ AlmostCases =
 -- Document 01, "The desk program": the worked example as calls, with room for four parts and six nodes
 unfoldable pub entries : List Call
 entries =
-    registerPart (48 ∷ 48 ∷ 55 ∷ 52 ∷ 49 ∷ [])
-    ∷ registerPart (55 ∷ 52 ∷ 49 ∷ [])
-    ∷ registerPart (48 ∷ 48 ∷ 55 ∷ 52 ∷ 49 ∷ [])
-    ∷ registerPart (52 ∷ 48 ∷ 49 ∷ 54 ∷ [])
+    registerPart (0x30 ∷ 0x30 ∷ 0x37 ∷ 0x34 ∷ 0x31 ∷ [])
+    ∷ registerPart (0x37 ∷ 0x34 ∷ 0x31 ∷ [])
+    ∷ registerPart (0x30 ∷ 0x30 ∷ 0x37 ∷ 0x34 ∷ 0x31 ∷ [])
+    ∷ registerPart (0x34 ∷ 0x30 ∷ 0x31 ∷ 0x36 ∷ [])
     ∷ insertKit (1 ∷ 2 ∷ 3 ∷ 1 ∷ []) 7
     ∷ insertKit (1 ∷ 1 ∷ []) 9
     ∷ insertKit (2 ∷ 1 ∷ []) 5
@@ -111,5 +110,5 @@ DeskExample =
     × (replies later (desk entries) ≡ done 7 ∷ done 0 ∷ done 7 ∷ refused 4 0 ∷ [])
     × (answer (writing (desk (entries ++ later)) (replicate 34 0)) ≡ done 34)
     × (memory (writing (desk (entries ++ later)) (replicate 34 0))
-    (replicate 34 0) ≡ 75 ∷ 73 ∷ 84 ∷ 0 ∷ 1 ∷ 0 ∷ 3 ∷ 5 ∷ 48 ∷ 48 ∷ 55 ∷ 52 ∷ 49 ∷ 3 ∷ 55 ∷ 52 ∷ 49 ∷ 4 ∷ 52 ∷ 48 ∷ 49 ∷ 54 ∷ 0 ∷ 2 ∷ 0 ∷ 9
-    ∷ 1 ∷ 1 ∷ 1 ∷ 0 ∷ 5 ∷ 1 ∷ 2 ∷ 1 ∷ [])
+    (replicate 34 0) ≡ 0x4B ∷ 0x49 ∷ 0x54 ∷ 0x00 ∷ 0x01 ∷ 0x00 ∷ 0x03 ∷ 0x05 ∷ 0x30 ∷ 0x30 ∷ 0x37 ∷ 0x34 ∷ 0x31 ∷ 0x03 ∷ 0x37 ∷ 0x34 ∷ 0x31 ∷ 0x04
+    ∷ 0x34 ∷ 0x30 ∷ 0x31 ∷ 0x36 ∷ 0x00 ∷ 0x02 ∷ 0x00 ∷ 0x09 ∷ 0x01 ∷ 0x01 ∷ 0x01 ∷ 0x00 ∷ 0x05 ∷ 0x01 ∷ 0x02 ∷ 0x01 ∷ [])

@@ -1,6 +1,5 @@
 -- Demand 1 from any list of calls: what every call answers a catalogue that was begun empty, in terms of what its accepted calls left and
--- of its
--- size, and never of a table. So 1 and 2 are never answered, and every other refusal comes in its case and in no other.
+-- of its size, and never of a table. So 1 and 2 are never answered, and every other refusal comes in its case and in no other.
 use mathlib.Core.Path.{_≡_}
 use mathlib.Core.Bool.{_||_, not}
 use mathlib.Core.List.{List, [], _∷_, _++_}

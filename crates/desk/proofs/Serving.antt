@@ -6,14 +6,15 @@ use Prim.Native.Nat.{ℕ, suc, _+_, _-_, _≤_, _<_}
 use native.Mathlib.Omega.{arith}
 use lib.ListN.{length, take, drop, length-take, length-drop, drop-of-length-le}
 use lib.Seq.{take-all, length-take-le, drop-drop, take-append-add}
-use Rattle.ground.specs.Laid.{laid}
+use Rattle.ground.specs.Laid.{laid, Put}
 use Rattle.ground.proofs.Laws.{below-or}
-use Rattle.ground.proofs.Laid.{take-laid, length-laid}
+use Rattle.ground.proofs.Laid.{take-laid}
+use Rattle.ground.proofs.Put.{put-length}
 use Rattle.ground.specs.Tables.{Tables, tables}
 use Rattle.desk_text.specs.Parted.{parted}
 use Rattle.desk_text.specs.Inner.{upTo, EndOf}
 use Rattle.desk_text.specs.Lines.{lineFeed, longestLine}
-use Rattle.desk_input.specs.Inner.{Kept, mostKept, keptOf}
+use Rattle.desk_input.specs.Inner.{partKept, mostKept, keptOf}
 use Rattle.desk_input.specs.Lines.{allButLast, lastOf, ended, unfinished, lastLine, linesOf, answered}
 use Rattle.desk_input.proofs.Cutting.{Clean, clean-none, clean-append, firstLine, behindFirst, goes-on-ended, goes-on-unfinished}
 use Rattle.desk_input.proofs.Cutting.{ends-ended, ends-unfinished, kept-clean, unfinished-clean, ended-on, unfinished-on, answered-append}
@@ -40,22 +41,22 @@ pub room-kept : (p s o p′ s′ o′ : List ℕ) → Room p s o → length p′
 room-kept p s o p′ s′ o′ r e f g = record { listing = omega (arith, r .listing); written = omega (arith, r .written) }
 
 -- what is kept after more of a line came
-module _ (old : List ℕ) (n : ℕ) (bs : List ℕ) (r : ℕ) (new : List ℕ) (K : Keeps old n) (k : Kept old n bs r new) where
+module _ (old : List ℕ) (n : ℕ) (bs : List ℕ) (r : ℕ) (new : List ℕ) (K : Keeps old n) (k : Put old n (partKept old n bs) r new) where
   fits : n + length (take (length old - n) bs) ≤ length old
   fits = let i = K .inside in simp length-take (omega arith)
 
   pub kept-size : length new ≡ mostKept
-  kept-size = ap length (k .lies) ∙ length-laid old n (take (length old - n) bs) fits ∙ K .size
+  kept-size = put-length k ∙ K .size
 
   pub kept-inside : r ≤ length new
-  kept-inside = let s = kept-size in let t = K .size in let f = fits in omega (arith, k .now-kept)
+  kept-inside = let s = kept-size in let t = K .size in let f = fits in omega (arith, k .behind)
 
   pub kept-holds : take r new ≡ keptOf (take n old ++ bs)
   unfolding keptOf
   kept-holds =
       let i : length (take n old) ≡ n = length-take-le n old (K .inside) in
       let a : take r new ≡ take n old ++ take (length old - n) bs = ap (take r) (k .lies) ∙ ap
-      (λ m. take m (laid old n (take (length old - n) bs))) (k .now-kept) ∙ take-laid old n (take (length old - n) bs) fits in
+      (λ m. take m (laid old n (take (length old - n) bs))) (k .behind) ∙ take-laid old n (take (length old - n) bs) fits in
       let b : length (take n old) + (length old - n) ≡ mostKept = omega (arith, K .size, K .inside) in
       a ∙ sym (take-append-add (take n old) bs (length old - n)) ∙ ap (λ m. take m (take n old ++ bs)) b
 
@@ -91,7 +92,7 @@ module _ {k p : List ℕ} {T : Tables} {kept places sheet out : List ℕ} {n at 
       }
 
   -- the rest of the piece, up to where its first line ends
-  module _ (end r : ℕ) (new : List ℕ) (e : EndOf p at lineFeed end) (N : Kept kept n (take (end - at) (drop at p)) r new) where
+  module _ (end r : ℕ) (new : List ℕ) (e : EndOf p at lineFeed end) (N : Put kept n (partKept kept n (take (end - at) (drop at p))) r new) where
     size-rest : length (drop at p) ≡ length p - at
     size-rest = length-drop at p
 

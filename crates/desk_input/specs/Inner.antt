@@ -20,7 +20,6 @@ unfoldable pub taken : {A : Type 0} → (List ℕ → A → A) → List (List �
 taken f [] k a = answered f (lastLine k) a
 taken f (p ∷ ps) k a = taken f ps (keptOf (unfinished (k ++ p))) (answered f (ended (k ++ p)) a)
 
--- as many of the bytes as there is room for were kept behind the first n, and r are kept now
-pub record Kept (old : List ℕ) (n : ℕ) (bs : List ℕ) (r : ℕ) (new : List ℕ) : Type 0 where
-  pub now-kept : r ≡ n + length (take (length old - n) bs)
-  pub lies : new ≡ laid old n (take (length old - n) bs)
+-- as many of the bytes as there is room for behind the first n
+abbrev pub partKept : List ℕ → ℕ → List ℕ → List ℕ
+partKept old n bs = take (length old - n) bs

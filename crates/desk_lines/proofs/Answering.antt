@@ -1,11 +1,11 @@
 -- What each kind of line answers: from the promises of the calls and the bytes set down to the desk's definitions.
 use mathlib.Core.Path.{_≡_, refl, ap, sym, _∙_}
 use mathlib.Core.Logic.{⊎-elim}
-use mathlib.Core.Bool.{true, false}
+use mathlib.Core.Bool.{Bool, true, false}
 use mathlib.Core.List.{List, [], _∷_, _++_}
 use Prim.Native.Nat.{ℕ, _≤_}
 use native.Mathlib.Omega.{arith}
-use lib.ListN.{length, getD, take, drop}
+use lib.ListN.{length, getD, take}
 use lib.Seq.{length-take-le}
 use borrow.Author.Tests.{eq-eqb, ne-eqb, ltb-false}
 use lib.Dec.{ltb}
@@ -23,14 +23,13 @@ use Rattle.catalogue.specs.Calls.{onRegister, inserting, finding, deleting, any
 use Rattle.answers.specs.Answers.{reply}
 use Rattle.answers.specs.declared.Answer.{Answer}
 use Rattle.answers.proofs.Answers.{done-or-refused}
-use Rattle.desk_text.specs.Amounts.{amountOf}
 use Rattle.desk_text.specs.Letters as letter
-use Rattle.desk_text.specs.Lines.{goodLine, fieldsOf}
-use Rattle.desk_replies.specs.Replies.{replyLine, otherLine, tagsText, Put}
-use Rattle.desk_replies.proofs.Replies.{put-same}
-use Rattle.desk_lists.specs.Typed.{Typed, typed, stopped, lookedUp}
-use Rattle.desk_lists.specs.Inner.{typedAs}
-use Rattle.desk_lines.specs.Desk.{Answered, typedFields, called, shown, registerLine, writeLine, withList, asked, askLine, insertLine, inserted, wellFormed, atDesk, Answers}
+use Rattle.desk_text.specs.Lines.{fieldsFrom}
+use Rattle.desk_replies.specs.Replies.{replyLine, ReplyStands}
+use Rattle.desk_replies.proofs.Replies.{reply-same}
+use Rattle.desk_lists.specs.Typed.{typed, stopped, lookedUp}
+use Rattle.desk_lists.specs.Inner.{typedAs, ReadAs}
+use Rattle.desk_lines.specs.Desk.{called, shown, registerLine, callOf, Answers}
 use Rattle.desk_lines.specs.Inner.{setDownBy, printed}
 
 -- a register that is ready stays so, whatever is registered
@@ -62,7 +61,7 @@ module _ (cs : List Case) (xs o : List ℕ) where
       let p = decide-last cs (given (ltb (length o) (length xs)) 12 (length xs)) (length xs) v e in
       let h : length xs ≤ length o = ltb-false (length o) (length xs) (p .0) in
       let m : memory (setDown cs xs o) o ≡ laid o 0 xs = leaves-done (answer (setDown cs xs o)) v o (laid o 0 xs) e in
-      let n : length (memory (setDown cs xs o) o) ≡ length o = ap length m ∙ length-laid o 0 xs (omega arith) in
+      let n : length (memory (setDown cs xs o) o) ≡ length o = ap length m ∙ length-laid o 0 xs in
       omega (arith, p .1)
 
   set-down-inside : setDownBy (answer (setDown cs xs o)) ≤ length (memory (setDown cs xs o) o)
@@ -94,7 +93,7 @@ written-inside T o a m q = promised-inside _ o a m (set-down-inside _ _ o) q
 
 -- the reply to a call that sets something down
 pub shown-put : {old new : List ℕ} {r : ℕ} (x : ℕ) (print : List ℕ → List ℕ) (p : Plan (List ℕ)) (o : List ℕ) (a : Reply) (m : List ℕ) →
-    Promise p o a m → Put old 0 (printed x print a m) r new → Put old 0 (shown x print p o) r new
+    Promise p o a m → ReplyStands old (printed x print a m) r new → ReplyStands old (shown x print p o) r new
 unfolding shown
 shown-put x print p o a m q h = rw (← q .answers, ← q .lent) h
 
@@ -106,9 +105,9 @@ leaves-same (refused n v) m = refl
 -- the reply to a call on the tables
 module _ {old new : List ℕ} {r : ℕ} (x : ℕ) (T : Tables) where
   pub called-put : (p : Plan Tables) (a : Reply) (U : Tables) → Promise p T a U →
-      Put old 0 (replyLine x (numberOf a) (valueOf a) []) r new → Answers (called x p T) old r new U
+      ReplyStands old (replyLine x (numberOf a) (valueOf a) []) r new → Answers (called x p T) old r new U
   unfolding called
-  called-put p a U q h = record { put = rw (← q .answers) h; left = q .lent }
+  called-put p a U q h = record { reply = rw (← q .answers) h; left = q .lent }
 
 -- one that leaves them
 kept-promise : (p : Plan Tables) (T : Tables) (a : Reply) → p .after ≡ T → a ≡ answer p → Promise p T a T
@@ -133,13 +132,12 @@ unfolding leaves
 on-register (done v) R M N = refl
 on-register (refused n v) R M N = refl
 
-pub register-put : {old new : List ℕ} {r : ℕ} (l R N n : List ℕ) (a : Reply) (M : List ℕ) → n ≡ getD (drop 1 (fieldsOf l)) 0 [] →
-    Promise (registering n R) R a M
-    → Put old 0 (replyLine letter.registers (numberOf a) (valueOf a) []) r new → Answers (registerLine l (tables R N)) old r new
-    (tables M N)
+pub register-put : {old new : List ℕ} {r : ℕ} (fs : List (List ℕ)) (R N n : List ℕ) (a : Reply) (M : List ℕ) → n ≡ getD fs 0 [] →
+    Promise (registering n R) R a M → ReplyStands old (replyLine letter.registers (numberOf a) (valueOf a) []) r new →
+    Answers (registerLine fs (tables R N)) old r new (tables M N)
 unfolding registerLine memory answer
-register-put l R N n a M e q h =
-    called-put letter.registers (tables R N) (onRegister (tables R N) (registering (getD (drop 1 (fieldsOf l)) 0 []) R)) a (tables M N)
+register-put fs R N n a M e q h =
+    called-put letter.registers (tables R N) (onRegister (tables R N) (registering (getD fs 0 []) R)) a (tables M N)
     (record {
       answers = rw (← e) (q .answers);
       lent = rw (← e)
@@ -147,116 +145,49 @@ register-put l R N n a M e q h =
     })
     h
 
+-- the call of each letter
+module _ (x t : ℕ) (l : List ℕ) (T : Tables) (a : Reply) where
+  pub call-inserts : (U : Tables) → x ≡ letter.inserts → Promise (inserting l t T) T a U → Promise (callOf x t l T) T a U
+  unfolding callOf
+  call-inserts U e h = rw (eq-eqb x letter.inserts e) h
+
+  module _ (n1 : x ≡ letter.inserts → ⊥) where
+    pub call-finds : x ≡ letter.finds → a ≡ answer (finding l T) → Promise (callOf x t l T) T a T
+    unfolding callOf
+    call-finds e f = rw (ne-eqb x letter.inserts n1, eq-eqb x letter.finds e) (finding-keeps l T a f)
+
+    module _ (n2 : x ≡ letter.finds → ⊥) where
+      pub call-deletes : (U : Tables) → x ≡ letter.deletes → Promise (deleting l T) T a U → Promise (callOf x t l T) T a U
+      unfolding callOf
+      call-deletes U e h = rw (ne-eqb x letter.inserts n1, ne-eqb x letter.finds n2, eq-eqb x letter.deletes e) h
+
+      module _ (n3 : x ≡ letter.deletes → ⊥) where
+        pub call-within : x ≡ letter.anyWithin → a ≡ answer (anyKit isWithin l T) → Promise (callOf x t l T) T a T
+        unfolding callOf
+        call-within e f =
+            rw (ne-eqb x letter.inserts n1, ne-eqb x letter.finds n2, ne-eqb x letter.deletes n3, eq-eqb x letter.anyWithin e)
+            (within-keeps l T a f)
+
+        pub call-containing : (x ≡ letter.anyWithin → ⊥) → a ≡ answer (anyKit isContaining l T) → Promise (callOf x t l T) T a T
+        unfolding callOf
+        call-containing n4 f =
+            rw (ne-eqb x letter.inserts n1, ne-eqb x letter.finds n2, ne-eqb x letter.deletes n3, ne-eqb x letter.anyWithin n4)
+            (containing-keeps l T a f)
+
 -- a list that was read, n words of it, or a lookup that was refused
-module _ {old new : List ℕ} {r : ℕ} (x : ℕ) (T : Tables) (asks : List ℕ → Answered) (res : Reply) (out : List ℕ) (t : Typed)
-    (s : typedAs res out ≡ t) where
-  pub with-typed : (n : ℕ) (U : Tables) → n ≡ valueOf res → isRefused res ≡ false → Answers (asks (take n out)) old r new U →
-      Answers (withList x T asks t) old r new U
-  unfolding withList
-  with-typed n U f e h =
-      let q : t ≡ typed (take n out) = sym s ∙ ap (λ (z : Reply). typedAs z out) (passed-done res e) ∙ ap (λ k. typed (take k out)) (sym f) in
-      rw q h
+module _ (R l : List ℕ) (from : ℕ) (a : Reply) (out : List ℕ) (d : ReadAs R l from a out) (b : Bool) (e : b ≡ isRefused a) where
+  pub read-stopped : b ≡ true → lookedUp R (fieldsFrom l from) ≡ stopped (numberOf a) (valueOf a)
+  read-stopped f = sym (d .says) ∙ ap (λ (z : Reply). typedAs z out) (refused-says a (sym e ∙ f))
 
-  pub with-stopped : isRefused res ≡ true → Put old 0 (replyLine x (numberOf res) (valueOf res) []) r new →
-      Answers (withList x T asks t) old r new T
-  unfolding withList
-  with-stopped e h =
-      let q : t ≡ stopped (numberOf res) (valueOf res) = sym s ∙ ap (λ (z : Reply). typedAs z out) (refused-says res e) in
-      rw q (record { put = h; left = refl })
+  module _ (f : b ≡ false) (n : ℕ) (v : n ≡ valueOf a) where
+    read-done : a ≡ done (valueOf a)
+    read-done = passed-done a (sym e ∙ f)
 
--- what is asked of a list, by the letter
-module _ {old new : List ℕ} {r : ℕ} (x : ℕ) (o : List ℕ) (T : Tables) (l : List ℕ) (a : Reply) where
-  pub asked-finds : x ≡ letter.finds → a ≡ answer (finding l T) → Put old 0 (replyLine x (numberOf a) (valueOf a) []) r new →
-      Answers (asked x o T l) old r new T
-  unfolding asked
-  asked-finds e f h = rw (eq-eqb x letter.finds e) (called-put x T (finding l T) a T (finding-keeps l T a f) h)
+    pub read-typed : lookedUp R (fieldsFrom l from) ≡ typed (take n out)
+    read-typed = sym (d .says) ∙ ap (λ (z : Reply). typedAs z out) read-done ∙ ap (λ k. typed (take k out)) (sym v)
 
-  module _ (n1 : x ≡ letter.finds → ⊥) where
-    pub asked-deletes : (U : Tables) → x ≡ letter.deletes → Promise (deleting l T) T a U →
-        Put old 0 (replyLine x (numberOf a) (valueOf a) []) r new → Answers (asked x o T l) old r new U
-    unfolding asked
-    asked-deletes U e f h = rw (ne-eqb x letter.finds n1, eq-eqb x letter.deletes e) (called-put x T (deleting l T) a U f h)
-
-    module _ (n2 : x ≡ letter.deletes → ⊥) where
-      pub asked-within : x ≡ letter.anyWithin → a ≡ answer (anyKit isWithin l T) →
-          Put old 0 (replyLine x (numberOf a) (valueOf a) []) r new → Answers (asked x o T l) old r new T
-      unfolding asked
-      asked-within e f h =
-          rw (ne-eqb x letter.finds n1, ne-eqb x letter.deletes n2, eq-eqb x letter.anyWithin e)
-          (called-put x T (anyKit isWithin l T) a T (within-keeps l T a f) h)
-
-      module _ (n3 : x ≡ letter.anyWithin → ⊥) where
-        pub asked-containing : x ≡ letter.anyContaining → a ≡ answer (anyKit isContaining l T) →
-            Put old 0 (replyLine x (numberOf a) (valueOf a) []) r new → Answers (asked x o T l) old r new T
-        unfolding asked
-        asked-containing e f h =
-            rw (ne-eqb x letter.finds n1, ne-eqb x letter.deletes n2, ne-eqb x letter.anyWithin n3, eq-eqb x letter.anyContaining e)
-            (called-put x T (anyKit isContaining l T) a T (containing-keeps l T a f) h)
-
-        module _ (n4 : x ≡ letter.anyContaining → ⊥) (m : List ℕ) (h : Put old 0 (printed x tagsText a m) r new) where
-          pub asked-all-within : x ≡ letter.allWithin → Promise (allKits isWithin l T o) o a m → Answers (asked x o T l) old r new T
-          unfolding asked
-          asked-all-within e q =
-              rw (
-                ne-eqb x letter.finds n1,
-                ne-eqb x letter.deletes n2,
-                ne-eqb x letter.anyWithin n3,
-                ne-eqb x letter.anyContaining n4,
-                eq-eqb x letter.allWithin e,
-              )
-              (record { put = shown-put x tagsText (allKits isWithin l T o) o a m q h; left = refl })
-
-          pub asked-all-containing : (x ≡ letter.allWithin → ⊥) → Promise (allKits isContaining l T o) o a m →
-              Answers (asked x o T l) old r new T
-          unfolding asked
-          asked-all-containing n5 q =
-              rw (
-                ne-eqb x letter.finds n1,
-                ne-eqb x letter.deletes n2,
-                ne-eqb x letter.anyWithin n3,
-                ne-eqb x letter.anyContaining n4,
-                ne-eqb x letter.allWithin n5,
-              )
-              (record { put = shown-put x tagsText (allKits isContaining l T o) o a m q h; left = refl })
-
--- a line that asks something of a list, and one that inserts
-module _ {old new : List ℕ} {r : ℕ} (l : List ℕ) (T : Tables) (res : Reply) (out : List ℕ) (fs : List (List ℕ))
-    (s : typedAs res out ≡ lookedUp (T .register) fs) where
-  module _ (x : ℕ) (o : List ℕ) (b : typedFields l ≡ fs) where
-    pub ask-typed : (n : ℕ) (U : Tables) → n ≡ valueOf res → isRefused res ≡ false → Answers (asked x o T (take n out)) old r new U →
-        Answers (askLine x l o T) old r new U
-    unfolding askLine
-    ask-typed n U f e h =
-        with-typed x T (asked x o T) res out (lookedUp (T .register) (typedFields l)) (s ∙ ap (lookedUp (T .register)) (sym b)) n U f e h
-
-    pub ask-stopped : isRefused res ≡ true → Put old 0 (replyLine x (numberOf res) (valueOf res) []) r new →
-        Answers (askLine x l o T) old r new T
-    unfolding askLine
-    ask-stopped e h =
-        with-stopped x T (asked x o T) res out (lookedUp (T .register) (typedFields l)) (s ∙ ap (lookedUp (T .register)) (sym b)) e h
-
-  module _ (tag : List ℕ) (b : typedFields l ≡ tag ∷ fs) where
-    pub insert-typed : (n t : ℕ) (a : Reply) (U : Tables) → n ≡ valueOf res → isRefused res ≡ false → t ≡ amountOf tag →
-        Promise (inserting (take n out) t T) T a U → Put old 0 (replyLine letter.inserts (numberOf a) (valueOf a) []) r new → Answers
-        (insertLine l T) old r new U
-    unfolding insertLine inserted
-    insert-typed n t a U g e f q h =
-        let y : t ≡ amountOf (getD (typedFields l) 0 []) = f ∙ ap (λ gs. amountOf (getD gs 0 [])) (sym b) in
-        with-typed letter.inserts T (inserted T (amountOf (getD (typedFields l) 0 []))) res out
-        (lookedUp (T .register) (drop 1 (typedFields l)))
-        (s ∙ ap (λ gs. lookedUp (T .register) (drop 1 gs)) (sym b)) n U g e
-        (rw (← y) (called-put letter.inserts T (inserting (take n out) t T) a U q h))
-
-    pub insert-stopped : isRefused res ≡ true → Put old 0 (replyLine letter.inserts (numberOf res) (valueOf res) []) r new →
-        Answers (insertLine l T) old r new T
-    unfolding insertLine
-    insert-stopped e h =
-        with-stopped letter.inserts T (inserted T (amountOf (getD (typedFields l) 0 []))) res out
-        (lookedUp (T .register) (drop 1 (typedFields l)))
-        (s ∙ ap (λ gs. lookedUp (T .register) (drop 1 gs)) (sym b)) e h
-
-pub words-inside : (res : Reply) (n m : ℕ) → n ≡ valueOf res → isRefused res ≡ false → leaves res 0 (valueOf res) ≤ m → n ≤ m
-words-inside res n m f e h = omega (arith, leaves-done res (valueOf res) 0 (valueOf res) (passed-done res e))
+    pub read-inside : n ≤ length out
+    read-inside = omega (arith, leaves-done a (valueOf a) 0 (valueOf a) read-done, d .inside)
 
 -- an answer whose number is 0 is done, and every other is refused
 pub zero-done : (a : Answer) → numberOf (reply a) ≡ 0 → reply a ≡ done (valueOf (reply a))
@@ -268,11 +199,11 @@ other-refused a h = ⊎-elim (λ d. absurd (h (ap numberOf d))) (λ r. r .1) (do
 module _ (a : Answer) (o : List ℕ) where
   -- refused: nothing behind the value
   pub printed-refused : {old new : List ℕ} {r : ℕ} (x : ℕ) (print : List ℕ → List ℕ) (n : ℕ) → n ≡ numberOf (reply a) → (n ≡ 0 → ⊥) →
-      Put old 0 (replyLine x (numberOf (reply a)) (valueOf (reply a)) []) r new → Put old 0 (printed x print (reply a) o) r new
+      ReplyStands old (replyLine x (numberOf (reply a)) (valueOf (reply a)) []) r new → ReplyStands old (printed x print (reply a) o) r new
   printed-refused x print n e h p =
       let q = leaves-refused (reply a) (numberOf (reply a)) (valueOf (reply a)) [] (print (take (valueOf (reply a)) o))
       (other-refused a (λ z. h (e ∙ z))) in
-      put-same p (ap (replyLine x (numberOf (reply a)) (valueOf (reply a))) (sym q))
+      reply-same p (ap (replyLine x (numberOf (reply a)) (valueOf (reply a))) (sym q))
 
   -- done: what was set down, printed
   module _ (n v : ℕ) (e : n ≡ numberOf (reply a)) (z : n ≡ 0) (f : v ≡ valueOf (reply a)) (h : setDownBy (reply a) ≤ length o) where
@@ -286,38 +217,9 @@ module _ (a : Answer) (o : List ℕ) where
     done-length = length-take-le v o done-inside
 
     pub printed-done : {old new : List ℕ} {r : ℕ} (x : ℕ) (print : List ℕ → List ℕ) →
-        Put old 0 (replyLine x 0 (length (take v o)) (print (take v o))) r new → Put old 0 (printed x print (reply a) o) r new
+        ReplyStands old (replyLine x 0 (length (take v o)) (print (take v o))) r new → ReplyStands old (printed x print (reply a) o) r new
     printed-done x print p =
         let q = leaves-done (reply a) (valueOf (reply a)) [] (print (take (valueOf (reply a)) o)) done-is in
         let w = done-length in
         let y : numberOf (reply a) ≡ 0 = sym e ∙ z in
-        put-same p (ap (λ k. replyLine x 0 k (print (take v o))) w ∙ sym (rw (q, y, ← f) refl))
-
--- a well formed line, by its letter
-module _ {old new : List ℕ} {r : ℕ} (l o s : List ℕ) (T U : Tables) where
-  pub other-answers : goodLine l ≡ false → Put old 0 otherLine r new → Answers (atDesk l o s T) old r new T
-  unfolding atDesk
-  other-answers e h = rw e (record { put = h; left = refl })
-
-  module _ (g : goodLine l ≡ true) where
-    pub register-answers : getD l 0 0 ≡ letter.registers → Answers (registerLine l T) old r new U → Answers (atDesk l o s T) old r new U
-    unfolding atDesk wellFormed
-    register-answers e h = rw (g, eq-eqb (getD l 0 0) letter.registers e) h
-
-    module _ (n1 : getD l 0 0 ≡ letter.registers → ⊥) where
-      pub insert-answers : getD l 0 0 ≡ letter.inserts → Answers (insertLine l T) old r new U → Answers (atDesk l o s T) old r new U
-      unfolding atDesk wellFormed
-      insert-answers e h = rw (g, ne-eqb (getD l 0 0) letter.registers n1, eq-eqb (getD l 0 0) letter.inserts e) h
-
-      module _ (n2 : getD l 0 0 ≡ letter.inserts → ⊥) where
-        pub write-answers : getD l 0 0 ≡ letter.writes → Put old 0 (writeLine T s .says) r new → Answers (atDesk l o s T) old r new T
-        unfolding atDesk wellFormed writeLine
-        write-answers e h =
-            rw (g, ne-eqb (getD l 0 0) letter.registers n1, ne-eqb (getD l 0 0) letter.inserts n2, eq-eqb (getD l 0 0) letter.writes e)
-            (record { put = h; left = refl })
-
-        pub ask-answers : (getD l 0 0 ≡ letter.writes → ⊥) → Answers (askLine (getD l 0 0) l o T) old r new U →
-            Answers (atDesk l o s T) old r new U
-        unfolding atDesk wellFormed
-        ask-answers n3 h =
-            rw (g, ne-eqb (getD l 0 0) letter.registers n1, ne-eqb (getD l 0 0) letter.inserts n2, ne-eqb (getD l 0 0) letter.writes n3) h
+        reply-same p (ap (λ k. replyLine x 0 k (print (take v o))) w ∙ sym (rw (q, y, ← f) refl))

@@ -1,27 +1,22 @@
 -- What a line leaves: its reply lies inside the output, and the tables do not depend on the outputs lent.
-use mathlib.Core.Path.{_≡_, refl, ap, _∙_}
+use mathlib.Core.Path.{_≡_, refl, ap}
 use mathlib.Core.Bool.{Bool, true, false, cond}
-use mathlib.Core.List.{List, [], _++_}
+use mathlib.Core.List.{List, []}
 use Prim.Native.Nat.{ℕ, _≤_, _<_}
 use native.Mathlib.Omega.{arith}
-use lib.ListN.{length, getD, drop, length-append, length-drop}
+use lib.ListN.{length}
 use lib.Dec.{eqb}
-use Rattle.ground.proofs.Laid.{laid-front}
 use Rattle.ground.specs.Tables.{Tables}
 use Rattle.desk_text.specs.Letters as letter
-use Rattle.desk_text.specs.Lines.{longestLine, goodLine}
+use Rattle.desk_text.specs.Lines.{longestLine, Parsed, none, line, parsed}
 use Rattle.desk_text.proofs.Lines.{line-long}
-use Rattle.desk_replies.specs.Replies.{otherLine}
 use Rattle.desk_lists.specs.Typed.{Typed, typed, stopped, lookedUp}
-use Rattle.desk_lines.specs.Desk.{Answered, typedFields, atDesk, wellFormed, writeLine, askLine, asked, withList, leftBy, Answers}
+use Rattle.desk_lines.specs.Desk.{Answered, atDesk, writeLine, askLine, asked, withList, leftBy, Answers}
 
 -- the reply lies inside the output
 pub reply-inside : (a : Answered) (old : List ℕ) (r : ℕ) (new : List ℕ) (T : Tables) → Answers a old r new T → length new ≡ length old →
     r ≤ length new
-reply-inside a old r new T p e =
-    let bs = a .says in
-    let f : length new ≡ length (bs ++ drop (length bs) old) = ap length (p .put .lies ∙ laid-front old bs) in
-    omega (arith, p .put .behind, length-append bs (drop (length bs) old), length-drop (length bs) old)
+reply-inside a old r new T p e = omega (arith, p .reply .whole)
 
 -- the tables after a line do not depend on the outputs
 cond-after : (b : Bool) (x y u v : Answered) → x .after ≡ u .after → y .after ≡ v .after → cond b x y .after ≡ cond b u v .after
@@ -29,35 +24,28 @@ cond-after true x y u v e f = e
 cond-after false x y u v e f = f
 
 module _ (o s o′ s′ : List ℕ) (T : Tables) where
-  asked-after : (x : ℕ) (l : List ℕ) → asked x o T l .after ≡ asked x o′ T l .after
+  asked-after : (x t : ℕ) (l : List ℕ) → asked x t o T l .after ≡ asked x t o′ T l .after
   unfolding asked
-  asked-after x l =
-      cond-after (eqb x letter.finds) _ _ _ _ refl
-      (cond-after (eqb x letter.deletes) _ _ _ _ refl
-      (cond-after (eqb x letter.anyWithin) _ _ _ _ refl
-      (cond-after (eqb x letter.anyContaining) _ _ _ _ refl
-      (cond-after (eqb x letter.allWithin) _ _ _ _ refl refl))))
+  asked-after x t l =
+      cond-after (eqb x letter.allWithin) _ _ _ _ refl (cond-after (eqb x letter.allContaining) _ _ _ _ refl refl)
 
-  with-after : (x : ℕ) (t : Typed) → withList x T (asked x o T) t .after ≡ withList x T (asked x o′ T) t .after
+  with-after : (x t : ℕ) (r : Typed) → withList x T (asked x t o T) r .after ≡ withList x T (asked x t o′ T) r .after
   unfolding withList
-  with-after x (typed l) = asked-after x l
-  with-after x (stopped n v) = refl
+  with-after x t (typed l) = asked-after x t l
+  with-after x t (stopped n v) = refl
 
-  outputs-after : (l : List ℕ) → atDesk l o s T .after ≡ atDesk l o′ s′ T .after
-  unfolding atDesk wellFormed writeLine askLine
-  outputs-after l =
-      cond-after (goodLine l) _ _ _ _
-      (cond-after (eqb (getD l 0 0) letter.registers) _ _ _ _ refl
-      (cond-after (eqb (getD l 0 0) letter.inserts) _ _ _ _ refl
-      (cond-after (eqb (getD l 0 0) letter.writes) _ _ _ _ refl (with-after (getD l 0 0) (lookedUp (T .register) (typedFields l))))))
-      refl
+  outputs-after : (p : Parsed) → atDesk p o s T .after ≡ atDesk p o′ s′ T .after
+  unfolding atDesk writeLine askLine
+  outputs-after none = refl
+  outputs-after (line x t fs) =
+      cond-after (eqb x letter.registers) _ _ _ _ refl
+      (cond-after (eqb x letter.writes) _ _ _ _ refl (with-after x t (lookedUp (T .register) fs)))
 
-pub left-by : (l o s : List ℕ) (T : Tables) → atDesk l o s T .after ≡ leftBy l T
+pub left-by : (l o s : List ℕ) (T : Tables) → atDesk (parsed l) o s T .after ≡ leftBy l T
 unfolding leftBy
-left-by l o s T = outputs-after o s [] [] T l
+left-by l o s T = outputs-after o s [] [] T (parsed l)
 
 -- an overlong line leaves the tables
 pub overlong-leaves : (l : List ℕ) (T : Tables) → longestLine < length l → leftBy l T ≡ T
 unfolding leftBy atDesk
-overlong-leaves l T h =
-    ap (λ (b : Bool). cond b (wellFormed l [] [] T) (record { says = otherLine; after = T }) .after) (line-long l (omega arith) h)
+overlong-leaves l T h = ap (λ p. atDesk p [] [] T .after) (line-long l (omega arith) h)

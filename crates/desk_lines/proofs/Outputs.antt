@@ -1,131 +1,91 @@
--- What each kind of line leaves in the outputs, by the tests that lead to it; and what a line promises is all that could meet it.
-use mathlib.Core.Path.{_≡_, ap, sym, _∙_}
-use mathlib.Core.Bool.{true, false}
-use mathlib.Core.List.{List}
+-- What each kind of line answers and leaves in the outputs, by the tests that lead to it; and what a line promises is all that could meet it.
+use mathlib.Core.Path.{_≡_, refl, sym, _∙_}
+use mathlib.Core.List.{List, []}
 use Prim.Native.Nat.{ℕ}
-use lib.ListN.{getD, take}
 use borrow.Author.Tests.{eq-eqb, ne-eqb}
-use Rattle.ground.specs.Calls.{Reply, numberOf, valueOf, isRefused, memory}
-use Rattle.ground.proofs.Calls.{passed-done, refused-says}
+use Rattle.ground.specs.Calls.{Reply, numberOf, valueOf, memory, Promise}
 use Rattle.questions.specs.Questions.{isWithin, isContaining}
 use Rattle.ground.specs.Tables.{Tables}
 use Rattle.catalogue.specs.Calls.{allKits, writing}
 use Rattle.desk_text.specs.Letters as letter
-use Rattle.desk_text.specs.Lines.{goodLine}
+use Rattle.desk_text.specs.Lines.{Parsed, none, line, parsed}
+use Rattle.desk_replies.specs.Replies.{replyLine, otherLine, tagsText, ReplyStands}
 use Rattle.desk_lists.specs.Typed.{typed, stopped, lookedUp}
-use Rattle.desk_lists.specs.Inner.{typedAs}
-use Rattle.desk_lines.specs.Desk.{typedFields, atDesk, Answers}
-use Rattle.desk_lines.specs.Inner.{askedPlaces, typedPlaces, askPlaces, placesAfter, sheetAfter, Outputs}
+use Rattle.desk_lines.specs.Desk.{registerLine, writeLine, withList, callOf, asked, askLine, atDesk, Answers}
+use Rattle.desk_lines.specs.Inner.{printed, askedPlaces, typedPlaces, askPlaces, placesAfter, sheetAfter, Outputs}
+use Rattle.desk_lines.proofs.Answering.{called-put, shown-put}
 
 -- a question on a list
-module _ (x : ℕ) (o : List ℕ) (T : Tables) (l : List ℕ) where
-  pub finds-leaves : x ≡ letter.finds → o ≡ askedPlaces x o T l
-  unfolding askedPlaces
-  finds-leaves e = rw (eq-eqb x letter.finds e)
+module _ {old new : List ℕ} {r : ℕ} (x t : ℕ) (o : List ℕ) (T : Tables) (l : List ℕ) (a : Reply) where
+  module _ (m : List ℕ) (h : ReplyStands old (printed x tagsText a m) r new) where
+    pub asked-all-within : x ≡ letter.allWithin → Promise (allKits isWithin l T o) o a m →
+        (Answers (asked x t o T l) old r new T) × (m ≡ askedPlaces x o T l)
+    unfolding asked askedPlaces
+    asked-all-within e q =
+        rw (eq-eqb x letter.allWithin e) (record { reply = shown-put x tagsText (allKits isWithin l T o) o a m q h; left = refl }, q .lent)
 
-  module _ (n1 : x ≡ letter.finds → ⊥) where
-    pub deletes-leaves : x ≡ letter.deletes → o ≡ askedPlaces x o T l
-    unfolding askedPlaces
-    deletes-leaves e = rw (ne-eqb x letter.finds n1, eq-eqb x letter.deletes e)
+    pub asked-all-containing : (x ≡ letter.allWithin → ⊥) → x ≡ letter.allContaining → Promise (allKits isContaining l T o) o a m →
+        (Answers (asked x t o T l) old r new T) × (m ≡ askedPlaces x o T l)
+    unfolding asked askedPlaces
+    asked-all-containing n e q =
+        rw (ne-eqb x letter.allWithin n, eq-eqb x letter.allContaining e)
+        (record { reply = shown-put x tagsText (allKits isContaining l T o) o a m q h; left = refl }, q .lent)
 
-    module _ (n2 : x ≡ letter.deletes → ⊥) where
-      pub within-leaves : x ≡ letter.anyWithin → o ≡ askedPlaces x o T l
-      unfolding askedPlaces
-      within-leaves e = rw (ne-eqb x letter.finds n1, ne-eqb x letter.deletes n2, eq-eqb x letter.anyWithin e)
+  pub asked-call : (U : Tables) → (x ≡ letter.allWithin → ⊥) → (x ≡ letter.allContaining → ⊥) → Promise (callOf x t l T) T a U →
+      ReplyStands old (replyLine x (numberOf a) (valueOf a) []) r new → (Answers (asked x t o T l) old r new U) × (o ≡ askedPlaces x o T l)
+  unfolding asked askedPlaces
+  asked-call U n m q h =
+      rw (ne-eqb x letter.allWithin n, ne-eqb x letter.allContaining m) (called-put x T (callOf x t l T) a U q h, refl)
 
-      module _ (n3 : x ≡ letter.anyWithin → ⊥) where
-        pub containing-leaves : x ≡ letter.anyContaining → o ≡ askedPlaces x o T l
-        unfolding askedPlaces
-        containing-leaves e =
-            rw (ne-eqb x letter.finds n1, ne-eqb x letter.deletes n2, ne-eqb x letter.anyWithin n3, eq-eqb x letter.anyContaining e)
+-- a line with a list: the list was read, or a lookup was refused
+module _ {old new : List ℕ} {r : ℕ} (x t : ℕ) (fs : List (List ℕ)) (o : List ℕ) (T : Tables) where
+  pub ask-typed : (l m : List ℕ) (U : Tables) → lookedUp (T .register) fs ≡ typed l →
+      (Answers (asked x t o T l) old r new U) × (m ≡ askedPlaces x o T l) → (Answers (askLine x t fs o T) old r new U) × (m ≡ askPlaces x fs o T)
+  unfolding askLine withList typedPlaces
+  ask-typed l m U e h = rw e h
 
-        module _ (n4 : x ≡ letter.anyContaining → ⊥) (m : List ℕ) where
-          pub all-within-lists : x ≡ letter.allWithin → m ≡ memory (allKits isWithin l T o) o → m ≡ askedPlaces x o T l
-          unfolding askedPlaces
-          all-within-lists e f =
-              rw (
-                ne-eqb x letter.finds n1,
-                ne-eqb x letter.deletes n2,
-                ne-eqb x letter.anyWithin n3,
-                ne-eqb x letter.anyContaining n4,
-                eq-eqb x letter.allWithin e,
-              ) f
-
-          pub all-containing-lists : (x ≡ letter.allWithin → ⊥) → m ≡ memory (allKits isContaining l T o) o → m ≡ askedPlaces x o T l
-          unfolding askedPlaces
-          all-containing-lists n5 f =
-              rw (
-                ne-eqb x letter.finds n1,
-                ne-eqb x letter.deletes n2,
-                ne-eqb x letter.anyWithin n3,
-                ne-eqb x letter.anyContaining n4,
-                ne-eqb x letter.allWithin n5,
-              ) f
-
--- a list that was read, or a lookup that was refused
-module _ (x : ℕ) (l o : List ℕ) (T : Tables) (res : Reply) (out : List ℕ) (fs : List (List ℕ))
-    (s : typedAs res out ≡ lookedUp (T .register) fs) (b : typedFields l ≡ fs) where
-  typed-is : typedAs res out ≡ lookedUp (T .register) (typedFields l)
-  typed-is = s ∙ ap (lookedUp (T .register)) (sym b)
-
-  pub ask-lists : (n : ℕ) (m : List ℕ) → n ≡ valueOf res → isRefused res ≡ false → m ≡ askedPlaces x o T (take n out) →
-      m ≡ askPlaces x l o T
-  unfolding typedPlaces
-  ask-lists n m g e f =
-      let q : lookedUp (T .register) (typedFields l) ≡ typed (take n out) =
-      sym typed-is ∙ ap (λ (z : Reply). typedAs z out) (passed-done res e) ∙ ap (λ k. typed (take k out)) (sym g) in
-      rw q f
-
-  pub stop-leaves : isRefused res ≡ true → o ≡ askPlaces x l o T
-  unfolding typedPlaces
-  stop-leaves e =
-      let q : lookedUp (T .register) (typedFields l) ≡ stopped (numberOf res) (valueOf res) =
-      sym typed-is ∙ ap (λ (z : Reply). typedAs z out) (refused-says res e) in
-      rw q
+  pub ask-stopped : (n v : ℕ) → lookedUp (T .register) fs ≡ stopped n v → ReplyStands old (replyLine x n v []) r new →
+      (Answers (askLine x t fs o T) old r new T) × (o ≡ askPlaces x fs o T)
+  unfolding askLine withList typedPlaces
+  ask-stopped n v e h = rw e (record { reply = h; left = refl }, refl)
 
 -- a line, by its letter
-module _ (l o s : List ℕ) (T : Tables) where
-  pub other-outputs : goodLine l ≡ false → Outputs l o s T o s
-  unfolding placesAfter sheetAfter
-  other-outputs e = record { places = rw e; sheet = rw e }
+module _ {old new : List ℕ} {r : ℕ} (p : Parsed) (o s : List ℕ) (T : Tables) where
+  pub other-served : p ≡ none → ReplyStands old otherLine r new → (Answers (atDesk p o s T) old r new T) × (Outputs p o s T o s)
+  unfolding atDesk placesAfter sheetAfter
+  other-served e h = (rw e (record { reply = h; left = refl }), record { places = rw e refl; sheet = rw e refl })
 
-  module _ (g : goodLine l ≡ true) where
-    pub register-outputs : getD l 0 0 ≡ letter.registers → Outputs l o s T o s
-    unfolding placesAfter sheetAfter
-    register-outputs e = let q = eq-eqb (getD l 0 0) letter.registers e in record { places = rw (g, q); sheet = rw (g, q) }
+  module _ (x t : ℕ) (fs : List (List ℕ)) (e : p ≡ line x t fs) where
+    pub register-served : (U : Tables) → x ≡ letter.registers → Answers (registerLine fs T) old r new U →
+        (Answers (atDesk p o s T) old r new U) × (Outputs p o s T o s)
+    unfolding atDesk placesAfter sheetAfter
+    register-served U i h =
+        let q = eq-eqb x letter.registers i in (rw (e, q) h, record { places = rw (e, q) refl; sheet = rw (e, q) refl })
 
-    module _ (n1 : getD l 0 0 ≡ letter.registers → ⊥) where
-      pub insert-outputs : getD l 0 0 ≡ letter.inserts → Outputs l o s T o s
-      unfolding placesAfter sheetAfter
-      insert-outputs e =
-          let q = ne-eqb (getD l 0 0) letter.registers n1 in
-          let r = eq-eqb (getD l 0 0) letter.inserts e in
-          record { places = rw (g, q, r); sheet = rw (g, q, r) }
+    module _ (n1 : x ≡ letter.registers → ⊥) where
+      pub write-served : (m : List ℕ) → x ≡ letter.writes → ReplyStands old (writeLine T s .says) r new → m ≡ memory (writing T s) s →
+          (Answers (atDesk p o s T) old r new T) × (Outputs p o s T o m)
+      unfolding atDesk placesAfter sheetAfter writeLine
+      write-served m i h f =
+          let q = ne-eqb x letter.registers n1 in
+          let w = eq-eqb x letter.writes i in
+          (rw (e, q, w) (record { reply = h; left = refl }), record { places = rw (e, q, w) refl; sheet = rw (e, q, w) f })
 
-      module _ (n2 : getD l 0 0 ≡ letter.inserts → ⊥) where
-        pub write-outputs : (m : List ℕ) → getD l 0 0 ≡ letter.writes → m ≡ memory (writing T s) s → Outputs l o s T o m
-        unfolding placesAfter sheetAfter
-        write-outputs m e f =
-            let q = ne-eqb (getD l 0 0) letter.registers n1 in
-            let r = ne-eqb (getD l 0 0) letter.inserts n2 in
-            let w = eq-eqb (getD l 0 0) letter.writes e in
-            record { places = rw (g, q, r, w); sheet = rw (g, q, r, w) f }
-
-        pub ask-outputs : (m : List ℕ) → (getD l 0 0 ≡ letter.writes → ⊥) → m ≡ askPlaces (getD l 0 0) l o T → Outputs l o s T m s
-        unfolding placesAfter sheetAfter
-        ask-outputs m n3 f =
-            let q = ne-eqb (getD l 0 0) letter.registers n1 in
-            let r = ne-eqb (getD l 0 0) letter.inserts n2 in
-            let w = ne-eqb (getD l 0 0) letter.writes n3 in
-            record { places = rw (g, q, r, w) f; sheet = rw (g, q, r, w) }
+      pub ask-served : (m : List ℕ) (U : Tables) → (x ≡ letter.writes → ⊥) →
+          (Answers (askLine x t fs o T) old r new U) × (m ≡ askPlaces x fs o T) → (Answers (atDesk p o s T) old r new U) × (Outputs p o s T m s)
+      unfolding atDesk placesAfter sheetAfter
+      ask-served m U n2 h =
+          let q = ne-eqb x letter.registers n1 in
+          let w = ne-eqb x letter.writes n2 in
+          (rw (e, q, w) (h .0), record { places = rw (e, q, w) (h .1); sheet = rw (e, q, w) refl })
 
 -- two outcomes that meet the promise of a line are one
 pub answer-line-pinned : (l o s old : List ℕ) (T : Tables) (r r′ : ℕ) (new new′ : List ℕ) (U U′ : Tables) (p p′ t t′ : List ℕ)
-    → Answers (atDesk l o s T) old r new U → Answers (atDesk l o s T) old r′ new′ U′ → Outputs l o s T p t → Outputs l o s T p′ t′
+    → Answers (atDesk (parsed l) o s T) old r new U → Answers (atDesk (parsed l) o s T) old r′ new′ U′ → Outputs (parsed l) o s T p t → Outputs (parsed l) o s T p′ t′
     → (r ≡ r′) × (new ≡ new′) × (U ≡ U′) × (p ≡ p′) × (t ≡ t′)
 answer-line-pinned l o s old T r r′ new new′ U U′ p p′ t t′ a b c d = (
-  a .put .behind ∙ sym (b .put .behind),
-  a .put .lies ∙ sym (b .put .lies),
+  a .reply .put .behind ∙ sym (b .reply .put .behind),
+  a .reply .put .lies ∙ sym (b .reply .put .lies),
   a .left ∙ sym (b .left),
   c .places ∙ sym (d .places),
   c .sheet ∙ sym (d .sheet),

@@ -3,17 +3,16 @@ use mathlib.Core.Path.{_≡_}
 use mathlib.Core.Bool.{cond}
 use mathlib.Core.List.{List, [], _∷_}
 use Prim.Native.Nat.{ℕ}
-use lib.ListN.{getD, take, drop}
+use lib.ListN.{getD, take}
 use lib.Dec.{eqb}
 use Rattle.ground.specs.Calls.{Plan, answer, leaves, memory, numberOf, valueOf}
 use Rattle.register.specs.Calls.{registering}
 use Rattle.questions.specs.Questions.{isWithin, isContaining}
 use Rattle.ground.specs.Tables.{Tables}
 use Rattle.catalogue.specs.Calls.{onRegister, inserting, finding, deleting, anyKit, allKits, writing}
-use Rattle.desk_text.specs.Amounts.{amountOf}
 use Rattle.desk_text.specs.Letters as letter
-use Rattle.desk_text.specs.Lines.{space, fieldsOf, goodLine}
-use Rattle.desk_replies.specs.Replies.{hexOf, tagsText, replyLine, otherLine, Put}
+use Rattle.desk_text.specs.Lines.{space, Parsed, none, line, parsed}
+use Rattle.desk_replies.specs.Replies.{hexOf, tagsText, replyLine, otherLine, ReplyStands}
 use Rattle.desk_lists.specs.Typed.{Typed, typed, stopped, lookedUp}
 
 -- a reply, and the tables afterwards
@@ -33,13 +32,9 @@ shown x print p o =
 unfoldable pub sheetText : List ℕ → List ℕ
 sheetText s = space ∷ hexOf s
 
--- the fields behind the letter
-abbrev pub typedFields : List ℕ → List (List ℕ)
-typedFields l = drop 1 (fieldsOf l)
-
--- "P number registers"
-unfoldable pub registerLine : List ℕ → Tables → Answered
-registerLine l T = called letter.registers (onRegister T (registering (getD (typedFields l) 0 []) (T .register))) T
+-- "P number registers": the number is the one field behind the letter
+unfoldable pub registerLine : List (List ℕ) → Tables → Answered
+registerLine fs T = called letter.registers (onRegister T (registering (getD fs 0 []) (T .register))) T
 
 -- "W writes", into the lent sheet s
 unfoldable pub writeLine : Tables → List ℕ → Answered
@@ -50,44 +45,38 @@ unfoldable pub withList : ℕ → Tables → (List ℕ → Answered) → Typed �
 withList x T asks (typed l) = asks l
 withList x T asks (stopped n v) = record { says = replyLine x n v []; after = T }
 
--- "K tag, then number and quantity pairs, inserts"
-unfoldable pub inserted : Tables → ℕ → List ℕ → Answered
-inserted T t l = called letter.inserts (inserting l t T) T
+-- "K tag, then number and quantity pairs, inserts; F finds; D deletes; B any within; S any containing": the call with the tag t and the list l
+unfoldable pub callOf : ℕ → ℕ → List ℕ → Tables → Plan Tables
+callOf x t l T =
+    cond (eqb x letter.inserts) (inserting l t T)
+    (cond (eqb x letter.finds) (finding l T)
+    (cond (eqb x letter.deletes) (deleting l T)
+    (cond (eqb x letter.anyWithin) (anyKit isWithin l T)
+    (anyKit isContaining l T))))
 
-unfoldable pub insertLine : List ℕ → Tables → Answered
-insertLine l T =
-    withList letter.inserts T (inserted T (amountOf (getD (typedFields l) 0 []))) (lookedUp (T .register) (drop 1 (typedFields l)))
+-- "b and s list all", in the lent places o
+unfoldable pub asked : ℕ → ℕ → List ℕ → Tables → List ℕ → Answered
+asked x t o T l =
+    cond (eqb x letter.allWithin) (record { says = shown x tagsText (allKits isWithin l T o) o; after = T })
+    (cond (eqb x letter.allContaining) (record { says = shown x tagsText (allKits isContaining l T o) o; after = T })
+    (called x (callOf x t l T) T))
 
--- "F finds; D deletes; B any within; S any containing; b and s list all", in the lent places o
-unfoldable pub asked : ℕ → List ℕ → Tables → List ℕ → Answered
-asked x o T l =
-    cond (eqb x letter.finds) (called x (finding l T) T)
-    (cond (eqb x letter.deletes) (called x (deleting l T) T)
-    (cond (eqb x letter.anyWithin) (called x (anyKit isWithin l T) T)
-    (cond (eqb x letter.anyContaining) (called x (anyKit isContaining l T) T)
-    (cond (eqb x letter.allWithin) (record { says = shown x tagsText (allKits isWithin l T o) o; after = T })
-    (record { says = shown x tagsText (allKits isContaining l T o) o; after = T })))))
+unfoldable pub askLine : ℕ → ℕ → List (List ℕ) → List ℕ → Tables → Answered
+askLine x t fs o T = withList x T (asked x t o T) (lookedUp (T .register) fs)
 
-unfoldable pub askLine : ℕ → List ℕ → List ℕ → Tables → Answered
-askLine x l o T = withList x T (asked x o T) (lookedUp (T .register) (typedFields l))
-
--- what a well formed line answers, by its letter
-unfoldable pub wellFormed : List ℕ → List ℕ → List ℕ → Tables → Answered
-wellFormed l o s T =
-    cond (eqb (getD l 0 0) letter.registers) (registerLine l T)
-    (cond (eqb (getD l 0 0) letter.inserts) (insertLine l T)
-    (cond (eqb (getD l 0 0) letter.writes) (writeLine T s)
-    (askLine (getD l 0 0) l o T)))
-
--- "Other lines answer `?`, once each"
-unfoldable pub atDesk : List ℕ → List ℕ → List ℕ → Tables → Answered
-atDesk l o s T = cond (goodLine l) (wellFormed l o s T) (record { says = otherLine; after = T })
+-- what a line that was taken apart answers, by its letter. "Other lines answer `?`, once each"
+unfoldable pub atDesk : Parsed → List ℕ → List ℕ → Tables → Answered
+atDesk none o s T = record { says = otherLine; after = T }
+atDesk (line x t fs) o s T =
+    cond (eqb x letter.registers) (registerLine fs T)
+    (cond (eqb x letter.writes) (writeLine T s)
+    (askLine x t fs o T))
 
 -- the tables after a line: the same whatever outputs are lent (proofs/Left, `left-by`)
 unfoldable pub leftBy : List ℕ → Tables → Tables
-leftBy l T = atDesk l [] [] T .after
+leftBy l T = atDesk (parsed l) [] [] T .after
 
--- What answering a line promises: the reply stands at the start of the output, r bytes long, and the tables are what they should be
+-- What answering a line promises: the reply stands at the start of the output, r bytes long and whole, and the tables are what they should be
 pub record Answers (a : Answered) (old : List ℕ) (r : ℕ) (new : List ℕ) (T : Tables) : Type 0 where
-  pub put : Put old 0 (a .says) r new
+  pub reply : ReplyStands old (a .says) r new
   pub left : T ≡ a .after

@@ -1,21 +1,20 @@
 -- Inner: no promise of the house rests on what stands here; inner contracts and proofs speak by it.
--- What the desk's functions ask of their outputs and of a line, and what a line leaves in the outputs.
+-- What the desk's functions ask of their outputs, and what a line leaves in the outputs.
 use mathlib.Core.Path.{_≡_}
-use mathlib.Core.Bool.{true, cond}
+use mathlib.Core.Bool.{cond}
 use mathlib.Core.List.{List, []}
 use Prim.Native.Nat.{ℕ, _+_, _*_, _≤_}
-use lib.ListN.{length, getD, take}
+use lib.ListN.{length, take}
 use lib.Dec.{eqb}
 use Rattle.ground.specs.Calls.{Reply, numberOf, valueOf, leaves, memory}
 use Rattle.questions.specs.Questions.{isWithin, isContaining}
 use Rattle.ground.specs.Tables.{Tables}
 use Rattle.catalogue.specs.Calls.{allKits, writing}
-use Rattle.desk_text.specs.Lines.{goodLine}
+use Rattle.desk_text.specs.Lines.{Parsed, none, line}
 use Rattle.desk_text.specs.Letters as letter
 use Rattle.desk_replies.specs.Replies.{replyLine}
 use Rattle.desk_replies.specs.Inner.{headRoom, tagRoom}
 use Rattle.desk_lists.specs.Typed.{Typed, typed, stopped, lookedUp}
-use Rattle.desk_lines.specs.Desk.{typedFields}
 
 ------------------------------------------------------------------------
 -- What the desk's functions ask and print
@@ -24,11 +23,6 @@ use Rattle.desk_lines.specs.Desk.{typedFields}
 pub record Room (places sheet out : List ℕ) : Type 0 where
   pub listing : headRoom + tagRoom * length places + 1 ≤ length out
   pub written : headRoom + 1 + 2 * length sheet + 1 ≤ length out
-
--- a well formed line with the letter x
-pub record Begins (l : List ℕ) (x : ℕ) : Type 0 where
-  pub good : goodLine l ≡ true
-  pub letter : getD l 0 0 ≡ x
 
 -- how much an answer says that it has set down
 abbrev pub setDownBy : Reply → ℕ
@@ -44,41 +38,33 @@ printed x print a o = replyLine x (numberOf a) (valueOf a) (leaves a [] (print (
 -- the places o after a question on a list: "b and s list all"
 unfoldable pub askedPlaces : ℕ → List ℕ → Tables → List ℕ → List ℕ
 askedPlaces x o T l =
-    cond (eqb x letter.finds) o
-    (cond (eqb x letter.deletes) o
-    (cond (eqb x letter.anyWithin) o
-    (cond (eqb x letter.anyContaining) o
-    (cond (eqb x letter.allWithin) (memory (allKits isWithin l T o) o)
-    (memory (allKits isContaining l T o) o)))))
+    cond (eqb x letter.allWithin) (memory (allKits isWithin l T o) o)
+    (cond (eqb x letter.allContaining) (memory (allKits isContaining l T o) o) o)
 
 -- a lookup that was refused leaves them
 unfoldable pub typedPlaces : ℕ → List ℕ → Tables → Typed → List ℕ
 typedPlaces x o T (typed l) = askedPlaces x o T l
 typedPlaces x o T (stopped n v) = o
 
-abbrev pub askPlaces : ℕ → List ℕ → List ℕ → Tables → List ℕ
-askPlaces x l o T = typedPlaces x o T (lookedUp (T .register) (typedFields l))
+abbrev pub askPlaces : ℕ → List (List ℕ) → List ℕ → Tables → List ℕ
+askPlaces x fs o T = typedPlaces x o T (lookedUp (T .register) fs)
 
 -- the places after a line
-unfoldable pub placesAfter : List ℕ → List ℕ → Tables → List ℕ
-placesAfter l o T =
-    cond (goodLine l)
-    (cond (eqb (getD l 0 0) letter.registers) o
-    (cond (eqb (getD l 0 0) letter.inserts) o
-    (cond (eqb (getD l 0 0) letter.writes) o
-    (askPlaces (getD l 0 0) l o T))))
-    o
+unfoldable pub placesAfter : Parsed → List ℕ → Tables → List ℕ
+placesAfter none o T = o
+placesAfter (line x t fs) o T =
+    cond (eqb x letter.registers) o
+    (cond (eqb x letter.writes) o
+    (askPlaces x fs o T))
 
 -- the sheet bytes s after a line: "W writes"
-unfoldable pub sheetAfter : List ℕ → List ℕ → Tables → List ℕ
-sheetAfter l s T =
-    cond (goodLine l)
-    (cond (eqb (getD l 0 0) letter.registers) s
-    (cond (eqb (getD l 0 0) letter.inserts) s
-    (cond (eqb (getD l 0 0) letter.writes) (memory (writing T s) s) s)))
-    s
+unfoldable pub sheetAfter : Parsed → List ℕ → Tables → List ℕ
+sheetAfter none s T = s
+sheetAfter (line x t fs) s T =
+    cond (eqb x letter.registers) s
+    (cond (eqb x letter.writes) (memory (writing T s) s) s)
 
 -- the outputs after a line, of those before it
-pub record Outputs (l o s : List ℕ) (T : Tables) (o′ s′ : List ℕ) : Type 0 where
-  pub places : o′ ≡ placesAfter l o T
-  pub sheet : s′ ≡ sheetAfter l s T
+pub record Outputs (p : Parsed) (o s : List ℕ) (T : Tables) (o′ s′ : List ℕ) : Type 0 where
+  pub places : o′ ≡ placesAfter p o T
+  pub sheet : s′ ≡ sheetAfter p s T

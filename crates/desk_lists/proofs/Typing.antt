@@ -5,7 +5,7 @@ use mathlib.Core.Logic.{_⊎_, inl, inr}
 use mathlib.Core.List.{List, [], _∷_, _++_, append-assoc, append-nil}
 use Prim.Native.Nat.{ℕ, _+_, _≤_, _<_}
 use native.Mathlib.Omega.{arith}
-use lib.ListN.{length, take, drop, set, length-set}
+use lib.ListN.{length, take, drop, set}
 use Rattle.ground.specs.Lists.{allb}
 use Rattle.ground.specs.Laid.{laid}
 use Rattle.ground.specs.Calls.{done, refused, answer}
@@ -21,10 +21,8 @@ use Rattle.desk_lists.specs.Typed.{Typed, typed, stopped, inFrontOf, loo
 use Rattle.desk_lists.specs.Inner.{Pairs, mostWords}
 
 -- two words set, one behind the other
-pub two-set : (l : List ℕ) (at a b : ℕ) → at + 2 ≤ length l → set (set l at a) (at + 1) b ≡ laid l at (a ∷ b ∷ [])
-two-set l at a b h =
-    let n : length (set l at a) ≡ length l = length-set l at a in
-    laid-one (set l at a) (at + 1) b (omega arith) ∙ laid-cons l at a (b ∷ []) (omega arith)
+pub two-set : (l : List ℕ) (at a b : ℕ) → set (set l at a) (at + 1) b ≡ laid l at (a ∷ b ∷ [])
+two-set l at a b = laid-one (set l at a) (at + 1) b ∙ laid-cons l at a (b ∷ [])
 
 -- a list in front of what the other pairs come to
 unfoldable pub joined : List ℕ → Typed → Typed
@@ -158,7 +156,7 @@ module _ {R l : List ℕ} {from : ℕ} {old out : List ℕ} {n at : ℕ} (t : Re
           record {
             pairs = pairs-next l at r (t .pairs) h e s f;
             room = omega (arith, t .room, number-some l at r (t .pairs) h e, quantity-some l at r (t .pairs) h e s f);
-            size = ap length w ∙ length-laid out n (x ∷ q ∷ []) pair-room ∙ t .size;
+            size = ap length w ∙ length-laid out n (x ∷ q ∷ []) ∙ t .size;
             large = t .large;
             whole =
                 ap (λ m. joined m (lookedUp R (fieldsFrom l (s + 1)))) g

@@ -1,21 +1,21 @@
--- Laws of printing: decimal numbers, and what is set down piece by piece in the rest of an output.
-use mathlib.Core.Path.{_≡_, refl, ap, sym, _∙_}
+-- Laws of printing: decimal numbers, and a reply set down piece by piece.
+use mathlib.Core.Path.{_≡_, refl, ap, _∙_}
 use mathlib.Core.Bool.{Bool, true, false, cond}
 use mathlib.Core.Logic.{_⊎_, inl, inr}
-use mathlib.Core.List.{List, [], _∷_, _++_, append-nil}
+use mathlib.Core.List.{List, [], _∷_, _++_}
 use Prim.Native.Nat.{ℕ, zero, suc, _+_, _*_, _/_, _%_, _≤_, _<_}
 use native.Mathlib.Numerals.{add-one}
 use native.Mathlib.Omega.{arith}
-use lib.ListN.{length, getD, set, drop, drop-of-length-le, length-append}
+use lib.ListN.{length, getD, drop, drop-of-length-le, length-append}
 use lib.Seq.{drop-cons}
 use lib.Dec.{ltb}
 use borrow.Author.Tests.{lt-ltb, le-ltb, ltb-false}
-use Rattle.ground.specs.Laid.{laid}
+use Rattle.ground.specs.Laid.{Put}
 use Rattle.ground.proofs.Laws.{below-or}
-use Rattle.ground.proofs.Laid.{laid-nil, laid-one, laid-laid, length-laid}
+use Rattle.ground.proofs.Put.{Rest, rest-start, rest-put, rest-last, rest-byte}
 use Rattle.desk_text.specs.Amounts.{zeroDigit}
 use Rattle.desk_text.specs.Lines.{space, lineFeed}
-use Rattle.desk_replies.specs.Replies.{digits, decimal, hexDigit, hexOf, tagsText, replyHead, replyLine, Put}
+use Rattle.desk_replies.specs.Replies.{digits, decimal, hexDigit, hexOf, tagsText, replyHead, replyLine, ReplyStands}
 use Rattle.desk_replies.specs.Inner.{headRoom, tagRoom}
 
 -- room for as many digits as a number has units is room enough
@@ -42,64 +42,6 @@ decimal-more n h =
 
 pub decimal-length : (n : ℕ) → 10 ≤ n → length (decimal n) ≡ length (decimal (n / 10)) + 1
 decimal-length n h = ap length (decimal-more n h) ∙ length-append (decimal (n / 10)) ((zeroDigit + n % 10) ∷ [])
-
--- one byte set, and more set down behind
-pub put-one : (l : List ℕ) (at b : ℕ) → at < length l → Put l at (b ∷ []) (at + 1) (set l at b)
-put-one l at b h = record { behind = refl; lies = laid-one l at b h }
-
-pub put-length : {o m : List ℕ} {a r : ℕ} {bs : List ℕ} → a + length bs ≤ length o → Put o a bs r m → length m ≡ length o
-put-length {o} {m} {a} {r} {bs} h p = ap length (p .lies) ∙ length-laid o a bs h
-
-pub put-put : {o m n : List ℕ} {a r s : ℕ} {bs cs : List ℕ} → a + length bs ≤ length o → Put o a bs r m → Put m r cs s n →
-    Put o a (bs ++ cs) s n
-put-put {o} {m} {n} {a} {r} {s} {bs} {cs} h p q =
-    record {
-      behind = simp length-append (omega (arith, p .behind, q .behind));
-      lies = q .lies ∙ rw (p .lies, p .behind)
-          (laid-laid o a bs cs h);
-    }
-
-pub put-same : {o m : List ℕ} {a r : ℕ} {bs cs : List ℕ} → Put o a bs r m → bs ≡ cs → Put o a cs r m
-put-same p e = record { behind = rw (← e) (p .behind); lies = rw (← e) (p .lies) }
-
--- the rest of what is to be set down: laid there, the output is the whole
-pub record Rest (o : List ℕ) (from : ℕ) (all out : List ℕ) (at : ℕ) (rest : List ℕ) : Type 0 where
-  pub room : at + length rest ≤ length out
-  pub size : length out ≡ length o
-  pub ends : at + length rest ≡ from + length all
-  pub lies : laid out at rest ≡ laid o from all
-
-pub rest-start : (o : List ℕ) (from : ℕ) (all : List ℕ) → from + length all ≤ length o → Rest o from all o from all
-rest-start o from all h = record { room = h; size = refl; ends = refl; lies = refl }
-
-pub rest-put : {o all out rest bs more new : List ℕ} {from at r : ℕ} → Rest o from all out at rest → rest ≡ bs ++ more →
-    Put out at bs r new → Rest o from all new r more
-rest-put {o} {all} {out} {rest} {bs} {more} {new} {from} {at} {r} t e p =
-    let len : length rest ≡ length bs + length more = ap length e ∙ length-append bs more in
-    let fit : at + length bs ≤ length out = omega (arith, t .room) in
-    let same : length new ≡ length out = put-length fit p in
-    record {
-      room = omega (arith, t .room, p .behind);
-      size = same ∙ t .size;
-      ends = omega (arith, t .ends, p .behind);
-      lies = rw (p .lies, p .behind) (laid-laid out at bs more fit) ∙ ap (laid out at) (sym e) ∙ t .lies;
-    }
-
-pub rest-room : {o all out rest : List ℕ} {from at : ℕ} (bs more : List ℕ) → Rest o from all out at rest → rest ≡ bs ++ more →
-    at + length bs ≤ length out
-rest-room bs more t e = let len = ap length e ∙ length-append bs more in omega (arith, t .room)
-
-pub rest-byte : {o all out rest more new : List ℕ} {from at r b d : ℕ} → Rest o from all out at rest → rest ≡ b ∷ more → d ≡ b →
-    Put out at (d ∷ []) r new → Rest o from all new r more
-rest-byte {b = b} {d = d} t e f p = rest-put {bs = b ∷ []} t e (put-same p (ap (λ x. x ∷ []) f))
-
-pub rest-byte-room : {o all out rest more : List ℕ} {from at b : ℕ} → Rest o from all out at rest → rest ≡ b ∷ more → at < length out
-rest-byte-room {more = more} {b = b} t e = let g = rest-room (b ∷ []) more t e in omega arith
-
-pub rest-end : {o all out rest : List ℕ} {from at : ℕ} → Rest o from all out at rest → rest ≡ [] → Put o from all at out
-rest-end {o} {all} {out} {rest} {from} {at} t e =
-    let len : length rest ≡ 0 = ap length e in
-    record { behind = omega (arith, t .ends); lies = sym (laid-nil out at) ∙ ap (laid out at) (sym e) ∙ t .lies }
 
 -- tags and bytes walked by position
 module _ (l : List ℕ) (i : ℕ) where
@@ -142,7 +84,7 @@ module _ (o : List ℕ) (letter n v : ℕ) (h : length (replyHead letter n v) �
           head-gap = rest-byte head-number refl refl p4
 
           pub head-value : {r5 : ℕ} {m5 : List ℕ} → Put m4 r4 (decimal v) r5 m5 → Put o 0 (replyHead letter n v) r5 m5
-          head-value p5 = rest-end (rest-put {more = []} head-gap (sym (append-nil (decimal v))) p5) refl
+          head-value p5 = rest-last head-gap refl p5
 
 -- how many digits a number has at most
 decimal-grow : (b k : ℕ) → ((m : ℕ) → m < b → length (decimal m) ≤ k) → (n : ℕ) → n < b * 10 → length (decimal n) ≤ k + 1
@@ -205,9 +147,12 @@ module _ (letter n v : ℕ) (rest : List ℕ) where
   unfolding replyLine
   behind-head {o} h p = rest-put (rest-start o 0 (replyLine letter n v rest) (omega arith)) refl p
 
-pub rest-last : {o all out rest new : List ℕ} {from at r b : ℕ} → Rest o from all out at rest → rest ≡ b ∷ [] → Put out at (b ∷ []) r new →
-    Put o from all r new
-rest-last t e p = rest-end (rest-byte t e refl p) refl
+-- with its last piece the reply stands whole
+pub reply-last : {o all m rest bs new : List ℕ} {at r : ℕ} → Rest o 0 all m at rest → rest ≡ bs → Put m at bs r new → ReplyStands o all r new
+reply-last t e p = record { put = rest-last t e p; whole = omega (arith, t .room, t .size, p .behind, ap length e) }
+
+pub reply-same : {o m bs cs : List ℕ} {r : ℕ} → ReplyStands o bs r m → bs ≡ cs → ReplyStands o cs r m
+reply-same p e = rw (← e) p
 
 -- the rooms that are asked for hold the whole reply
 module _ (letter : ℕ) (o : List ℕ) where

@@ -1,11 +1,10 @@
 -- Document 01, "The desk program": the reply line.
-use mathlib.Core.Path.{_≡_}
 use mathlib.Core.Bool.{cond}
 use mathlib.Core.List.{List, [], _∷_, _++_}
-use Prim.Native.Nat.{ℕ, zero, suc, _+_, _/_, _%_}
+use Prim.Native.Nat.{ℕ, zero, suc, _+_, _-_, _/_, _%_, _≤_}
 use lib.ListN.{length}
 use lib.Dec.{ltb}
-use Rattle.ground.specs.Laid.{laid}
+use Rattle.ground.specs.Laid.{Put}
 use Rattle.desk_text.specs.Amounts.{zeroDigit}
 use Rattle.desk_text.specs.Lines.{space, lineFeed}
 
@@ -20,7 +19,7 @@ decimal n = digits (suc n) n
 
 -- "capital hex": 0 to 9, then A to F
 unfoldable pub hexDigit : ℕ → ℕ
-hexDigit d = cond (ltb d 10) (zeroDigit + d) (55 + d)
+hexDigit d = cond (ltb d 10) (zeroDigit + d) (0x41 - 10 + d)
 
 unfoldable pub hexOf : List ℕ → List ℕ
 hexOf [] = []
@@ -41,9 +40,9 @@ replyLine letter number value rest = replyHead letter number value ++ (rest ++ (
 
 -- "Other lines answer `?`"
 abbrev pub otherLine : List ℕ
-otherLine = 63 ∷ lineFeed ∷ []
+otherLine = 0x3F ∷ lineFeed ∷ []
 
--- bs were set down in an output from a position on, and r is the position behind them
-pub record Put (old : List ℕ) (at : ℕ) (bs : List ℕ) (r : ℕ) (new : List ℕ) : Type 0 where
-  pub behind : r ≡ at + length bs
-  pub lies : new ≡ laid old at bs
+-- a reply stands at the start of an output, r bytes long and whole; the rest is as it was
+pub record ReplyStands (old bs : List ℕ) (r : ℕ) (new : List ℕ) : Type 0 where
+  pub put : Put old 0 bs r new
+  pub whole : r ≤ length old

@@ -5,7 +5,8 @@ ghost use Prim.Native.Nat.{_+_, _*_, _<_, _≤_};
 ghost use lib.ListN.{length};
 ghost use Rattle.desk_text.specs.Amounts.{zeroDigit};
 ghost use Rattle.desk_text.specs.Lines.{space};
-ghost use Rattle.desk_replies.specs.Replies.{decimal, hexDigit, hexOf, tagsText, replyHead, replyLine, otherLine, Put};
+ghost use Rattle.desk_replies.specs.Replies.{decimal, hexDigit, hexOf, tagsText, replyHead, replyLine, otherLine, ReplyStands};
+ghost use Rattle.ground.specs.Laid.{Put};
 ghost use Rattle.desk_replies.specs.Inner.{headRoom, tagRoom};
 use desk_text::LINE_FEED;
 use desk_text::SPACE;
@@ -97,7 +98,7 @@ pub fn put_head(out: &mut [u8], letter: u8, number: usize, value: usize) -> usiz
 // Sets the reply to a line that is not well formed down.
 pub fn put_other(out: &mut [u8]) -> usize
     requires { ⌜ 2 ≤ length (now out) ⌝ }
-    ensures { λ r. ⌜ Put (now (out .entry)) 0 otherLine r (now (out .exit)) ⌝ }
+    ensures { λ r. ⌜ ReplyStands (now (out .entry)) otherLine r (now (out .exit)) ⌝ }
 {
     let at = put_byte(out, 0, OTHER);
     put_byte(out, at, LINE_FEED)
@@ -106,7 +107,7 @@ pub fn put_other(out: &mut [u8]) -> usize
 // Sets a whole reply of letter, number and value down.
 pub fn put_reply(out: &mut [u8], letter: u8, number: usize, value: usize) -> usize
     requires { ⌜ headRoom + 1 ≤ length (now out) ⌝ }
-    ensures { λ r. ⌜ Put (now (out .entry)) 0 (replyLine letter number value []) r (now (out .exit)) ⌝ }
+    ensures { λ r. ⌜ ReplyStands (now (out .entry)) (replyLine letter number value []) r (now (out .exit)) ⌝ }
 {
     let at = put_head(out, letter, number, value);
     put_byte(out, at, LINE_FEED)
@@ -115,7 +116,7 @@ pub fn put_reply(out: &mut [u8], letter: u8, number: usize, value: usize) -> usi
 // Sets the whole reply of a listing that is done down.
 pub fn put_listing(out: &mut [u8], letter: u8, tags: &[u16]) -> usize
     requires { ⌜ headRoom + tagRoom * length (now tags) + 1 ≤ length (now out) ⌝ }
-    ensures { λ r. ⌜ Put (now (out .entry)) 0 (replyLine letter 0 (length (now (tags .entry))) (tagsText (now (tags .entry)))) r (now (out .exit)) ⌝ }
+    ensures { λ r. ⌜ ReplyStands (now (out .entry)) (replyLine letter 0 (length (now (tags .entry))) (tagsText (now (tags .entry)))) r (now (out .exit)) ⌝ }
 {
     let mut at = put_head(out, letter, 0, tags.len());
     at = put_tags(out, at, tags);
@@ -125,7 +126,7 @@ pub fn put_listing(out: &mut [u8], letter: u8, tags: &[u16]) -> usize
 // Sets the whole reply with a sheet down.
 pub fn put_sheet(out: &mut [u8], letter: u8, sheet: &[u8]) -> usize
     requires { ⌜ headRoom + 1 + 2 * length (now sheet) + 1 ≤ length (now out) ⌝ }
-    ensures { λ r. ⌜ Put (now (out .entry)) 0 (replyLine letter 0 (length (now (sheet .entry))) (space ∷ hexOf (now (sheet .entry)))) r (now (out .exit)) ⌝ }
+    ensures { λ r. ⌜ ReplyStands (now (out .entry)) (replyLine letter 0 (length (now (sheet .entry))) (space ∷ hexOf (now (sheet .entry)))) r (now (out .exit)) ⌝ }
 {
     let mut at = put_head(out, letter, 0, sheet.len());
     at = put_byte(out, at, SPACE);

@@ -8,10 +8,10 @@ use Rattle.ground.specs.Lists.{allb, every}
 
 -- the byte of the digit 0; the others follow it
 abbrev pub zeroDigit : ℕ
-zeroDigit = 48
+zeroDigit = 0x30
 
 abbrev pub nineDigit : ℕ
-nineDigit = 57
+nineDigit = 0x39
 
 abbrev pub mostDigits : ℕ
 mostDigits = 5

@@ -1,4 +1,4 @@
--- Document 01, "The desk program": when a line is well formed. "This is judged before anything is called."
+-- Document 01, "The desk program": a line taken apart, or none. "This is judged before anything is called."
 use mathlib.Core.Bool.{Bool, false, true, _&&_, cond}
 use mathlib.Core.List.{List, [], _∷_}
 use Prim.Native.Nat.{ℕ}
@@ -6,14 +6,14 @@ use lib.ListN.{length, getD}
 use lib.Dec.{eqb, leb}
 use Rattle.ground.specs.Lists.{allb, anyb, every}
 use Rattle.desk_text.specs.Parted.{parted, partedFrom}
-use Rattle.desk_text.specs.Amounts.{goodAmount}
+use Rattle.desk_text.specs.Amounts.{amountOf, goodAmount}
 use Rattle.desk_text.specs.Letters.{registers, inserts, writes, takesList}
 
 abbrev pub space : ℕ
-space = 32
+space = 0x20
 
 abbrev pub lineFeed : ℕ
-lineFeed = 10
+lineFeed = 0x0A
 
 -- "A line is at most 512 bytes before its line feed"
 abbrev pub longestLine : ℕ
@@ -35,28 +35,44 @@ goodPairs [] = true
 goodPairs (n ∷ []) = false
 goodPairs (n ∷ q ∷ fs) = goodAmount q && goodPairs fs
 
+-- a line taken apart: its letter, its tag (0 where it has none), and the fields behind these; "other lines" are none
+pub data Parsed : Type 0 where
+  none : Parsed
+  line : ℕ → ℕ → List (List ℕ) → Parsed
+
+-- the letter x, the tag t and the fields fs are a line if what stands there is good
+unfoldable pub lineIf : Bool → ℕ → ℕ → List (List ℕ) → Parsed
+lineIf good x t fs = cond good (line x t fs) none
+
+-- so many fields, and no tag
+unfoldable pub exactly : ℕ → ℕ → List (List ℕ) → Parsed
+exactly n x fs = lineIf (eqb (length fs) n) x 0 fs
+
+-- a list alone
+unfoldable pub pairs : ℕ → List (List ℕ) → Parsed
+pairs x fs = lineIf (goodPairs fs) x 0 fs
+
 -- "tag, then number and quantity pairs"
-unfoldable pub goodKitFields : List (List ℕ) → Bool
-goodKitFields [] = false
-goodKitFields (t ∷ fs) = goodAmount t && goodPairs fs
+unfoldable pub amountAndPairs : ℕ → List (List ℕ) → Parsed
+amountAndPairs x [] = none
+amountAndPairs x (t ∷ fs) = lineIf (goodAmount t && goodPairs fs) x (amountOf t) fs
 
--- what may stand behind a letter
-unfoldable pub goodBehind : ℕ → List (List ℕ) → Bool
-goodBehind x fs =
-    cond (eqb x registers) (eqb (length fs) 1)
-    (cond (eqb x inserts) (goodKitFields fs)
-    (cond (eqb x writes) (eqb (length fs) 0)
-    (anyb (eqb x) takesList && goodPairs fs)))
+-- what may stand behind the letter x: "too few or too many fields" are none of these
+unfoldable pub behindLetter : ℕ → List (List ℕ) → Parsed
+behindLetter x fs =
+    cond (eqb x registers) (exactly 1 x fs)
+    (cond (eqb x inserts) (amountAndPairs x fs)
+    (cond (eqb x writes) (exactly 0 x fs)
+    (cond (anyb (eqb x) takesList) (pairs x fs) none)))
 
--- a letter, and what may stand behind it
-unfoldable pub goodFields : List (List ℕ) → Bool
-goodFields [] = false
-goodFields (f ∷ fs) = eqb (length f) 1 && goodBehind (getD f 0 0) fs
+-- the first field is a letter
+unfoldable pub lettered : List (List ℕ) → Parsed
+lettered [] = none
+lettered (f ∷ fs) = cond (eqb (length f) 1) (behindLetter (getD f 0 0) fs) none
 
 -- "Other lines answer `?`, once each: an empty or overlong line, an empty field, too few or too many fields"
-unfoldable pub goodLine : List ℕ → Bool
-goodLine l =
-    every (leb 1 (length l)
-    ∷ leb (length l) longestLine
-    ∷ allb filled (fieldsOf l)
-    ∷ goodFields (fieldsOf l) ∷ [])
+unfoldable pub parsed : List ℕ → Parsed
+parsed l =
+    cond (every (leb 1 (length l) ∷ leb (length l) longestLine ∷ allb filled (fieldsOf l) ∷ []))
+    (lettered (fieldsOf l))
+    none

@@ -5,10 +5,10 @@ ghost use Prim.Native.Nat.{_+_, _<_, _≤_};
 ghost use lib.ListN.{length};
 ghost use lib.Dec.{eqb};
 ghost use Rattle.ground.specs.Lists.{allb, anyb};
-ghost use Rattle.desk_text.specs.Inner.{EndOf, amountWhere, amountIn};
+ghost use Rattle.desk_text.specs.Inner.{EndOf, amountWhere, amountIn, ParsedAs, lineWhere};
 ghost use Rattle.desk_text.specs.Amounts.{largestAmount, isDigit, leadingZero, small, amountOf};
 ghost use Rattle.desk_text.specs.Letters.{takesList};
-ghost use Rattle.desk_text.specs.Lines.{fieldsOf, fieldsFrom, filled, goodPairs, goodKitFields, goodBehind, goodLine};
+ghost use Rattle.desk_text.specs.Lines.{fieldsOf, fieldsFrom, filled, goodPairs, amountAndPairs, behindLetter, parsed};
 use ground::wide8;
 
 pub const LONGEST_LINE: usize = 512;
@@ -43,10 +43,21 @@ pub const ALL_CONTAINING: u8 = b's';
 
 pub const WRITES: u8 = b'W';
 
+// Where the field behind the letter starts.
+const BEHIND_LETTER: usize = 2;
+
 // Whether a field is a good tag or quantity, and its value; 0 where it is none.
 pub struct Amount {
     pub good: bool,
     pub value: u16,
+}
+
+// A line taken apart.
+pub enum Parsed {
+    // every other line answers `?`
+    None,
+    // its letter, its tag or 0, and where the fields behind these start
+    Line(u8, u16, usize),
 }
 
 // Where the stretch that starts at a position ends: before the next b, or at the end.
@@ -189,19 +200,31 @@ fn good_pairs(line: &[u8], from: usize) -> bool
     true
 }
 
-// Whether the fields from a position on are a tag and pairs.
-fn good_kit(line: &[u8], from: usize) -> bool
+// A line, if what stands there is good.
+fn line_if(good: bool, letter: u8, amount: u16, from: usize) -> Parsed
+    ensures { λ r. ⌜ r ≡ lineWhere good letter amount from ⌝ }
+{
+    if good {
+        return Parsed::Line(letter, amount, from);
+    }
+    Parsed::None
+}
+
+// An amount from a position on, and then pairs.
+fn parse_amount(letter: u8, line: &[u8], from: usize) -> Parsed
     requires { ⌜ from ≤ length (now line) + 1 ⌝ }
-    ensures { λ r. ⌜ r ≡ goodKitFields (fieldsFrom (now (line .entry)) from) ⌝ }
+    ensures { λ r. ⌜ ParsedAs (now (line .entry)) (amountAndPairs letter (fieldsFrom (now (line .entry)) from)) r ⌝ }
 {
     if line.len() < from {
-        return false;
+        return Parsed::None;
     }
     let end = end_of(line, from, SPACE);
-    if !read_amount(&line[from..end]).good {
-        return false;
+    let amount = read_amount(&line[from..end]);
+    if !amount.good {
+        return Parsed::None;
     }
-    good_pairs(line, end + 1)
+    let list = end + 1;
+    line_if(good_pairs(line, list), letter, amount.value, list)
 }
 
 // Whether a letter takes a list alone.
@@ -226,42 +249,42 @@ fn takes_list(letter: u8) -> bool
     letter == ALL_CONTAINING
 }
 
-// Whether the fields from a position on may stand behind a letter.
-fn good_behind(letter: u8, line: &[u8], from: usize) -> bool
+// What stands behind a letter, from a position on.
+fn parse_behind(letter: u8, line: &[u8], from: usize) -> Parsed
     requires { ⌜ from ≤ length (now line) + 1 ⌝ }
-    ensures { λ r. ⌜ r ≡ goodBehind letter (fieldsFrom (now (line .entry)) from) ⌝ }
+    ensures { λ r. ⌜ ParsedAs (now (line .entry)) (behindLetter letter (fieldsFrom (now (line .entry)) from)) r ⌝ }
 {
     if letter == REGISTERS {
-        return count_fields(line, from) == 1;
+        return line_if(count_fields(line, from) == 1, letter, 0, from);
     }
     if letter == INSERTS {
-        return good_kit(line, from);
+        return parse_amount(letter, line, from);
     }
     if letter == WRITES {
-        return count_fields(line, from) == 0;
+        return line_if(count_fields(line, from) == 0, letter, 0, from);
     }
     if !takes_list(letter) {
-        return false;
+        return Parsed::None;
     }
-    good_pairs(line, from)
+    line_if(good_pairs(line, from), letter, 0, from)
 }
 
-// Whether a line is well formed; every other line answers `?`.
-pub fn good_line(line: &[u8]) -> bool
-    ensures { λ r. ⌜ r ≡ goodLine (now (line .entry)) ⌝ }
+// Takes a line apart, once for all that is done with it.
+pub fn parse(line: &[u8]) -> Parsed
+    ensures { λ r. ⌜ ParsedAs (now (line .entry)) (parsed (now (line .entry))) r ⌝ }
 {
     if line.len() < 1 {
-        return false;
+        return Parsed::None;
     }
     if LONGEST_LINE < line.len() {
-        return false;
+        return Parsed::None;
     }
     if !all_filled(line) {
-        return false;
+        return Parsed::None;
     }
     let end = end_of(line, 0, SPACE);
     if end != 1 {
-        return false;
+        return Parsed::None;
     }
-    good_behind(line[0], line, 2)
+    parse_behind(line[0], line, BEHIND_LETTER)
 }

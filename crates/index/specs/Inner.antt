@@ -4,11 +4,12 @@ use mathlib.Core.Path.{_≡_}
 use mathlib.Core.List.{List}
 use Prim.Native.Nat.{ℕ, _≤_}
 use lib.ListN.{length, take, drop}
-use Rattle.ground.specs.Calls.{Plan, plan, Reply, done, refused}
+use Rattle.ground.specs.Calls.{Plan, plan}
 use Rattle.nodes.specs.Nodes.{depth, rowOf}
 use Rattle.nodes.specs.Inner.{Live}
 use Rattle.nodes.specs.Held.{held, tagIn}
-use Rattle.index_insert.specs.Enter.{enter, lacks, nodeOf}
+use Rattle.index_links.specs.Links.{nodeOf}
+use Rattle.index_insert.specs.Enter.{enter, lacks}
 use Rattle.index_delete.specs.Strike.{strike}
 use Rattle.index.specs.Index.{entryRefusals, missingRefusals}
 

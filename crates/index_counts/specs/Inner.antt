@@ -1,7 +1,6 @@
 -- Inner: no promise of the house rests on what stands here; inner contracts and proofs speak by it.
 -- Document 01, "nodes used are always 1 plus the number of different nonempty beginnings of held kits": what an insertion takes, and what
--- it is
--- refused for, counted by those beginnings, as statements that the laws prove.
+-- it is refused for, counted by those beginnings, as statements that the laws prove.
 use mathlib.Core.Path.{_≡_}
 use mathlib.Core.Logic.{_↔_}
 use mathlib.Core.List.{List}

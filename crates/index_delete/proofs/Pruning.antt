@@ -10,7 +10,7 @@ use Rattle.nodes.specs.Nodes.{at, tagWord, parent, child, depth, tag, size}
 use Rattle.nodes.proofs.Rows.{climb, live-inside}
 use Rattle.index_links.specs.Links.{unlink}
 use Rattle.index_links.specs.Inner.{Unlinks}
-use Rattle.index_insert.proofs.Retag.{retag-shape, retag-to, retag-depth}
+use Rattle.index_links.proofs.Retag.{retag-shape, retag-to, retag-depth}
 use Rattle.index_delete.specs.Strike.{prune, strikeAt}
 use Rattle.index_delete.specs.Inner.{Prunes}
 use Rattle.index_delete.proofs.Trimmed.{prune-goes, prune-tag, prune-child, prune-root, up-prunes, up-depth, off}

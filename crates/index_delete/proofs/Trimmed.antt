@@ -11,11 +11,10 @@ use Rattle.ground.specs.Lists.{isZero}
 use Rattle.nodes.specs.Nodes.{parent, child, depth, tag, rowOf}
 use Rattle.nodes.specs.Inner.{Used, Live, Shape}
 use Rattle.nodes.proofs.Lists.{zero-or, same-or}
-use Rattle.nodes.proofs.Rows.{climb, used-pos}
+use Rattle.nodes.proofs.Rows.{climb, used-pos, deep-used}
 use Rattle.index_links.specs.Links.{unlink}
-use Rattle.index_links.proofs.Splice.{Spliced, cut-shape, cut-lone, cut-tags, rows-kept, not-parent, used-to, used-from, used-ne}
+use Rattle.index_links.proofs.Splice.{Pending, Spliced, cut-shape, cut-tags, cut-pending, rows-kept, not-parent, used-to, used-from, used-ne}
 use Rattle.index_links.proofs.Linked.{unspliced}
-use Rattle.index_insert.proofs.Entered.{Pending}
 use Rattle.index_delete.specs.Strike.{prune}
 use Rattle.index_delete.specs.Inner.{Prunes}
 
@@ -45,9 +44,6 @@ prune-root N i = refl
 module _ {parts : ℕ} {N : List ℕ} {i : ℕ} (P : Prunes parts N i) (g : 0 < i) (z : child N i ≡ 0) where
   abbrev S : Shape parts N
   S = P .shape
-
-  abbrev L : List ℕ
-  L = unlink N i
 
   pub gone : Used N i
   gone = P .live g
@@ -107,23 +103,16 @@ higher {parts = parts} {N = N} {M = M} {i = i} P g t z y =
       used = back;
       stays = λ j v h. y .stays j (used-from X j (λ (e : j ≡ i). omega (arith, ap (tag N) e)) v) (omega (arith, same-tag j));
       rows = λ j l. y .rows j l ∙ sym (rows-kept S u z X j (λ h. back j (l h)) (apart j l));
-      leaf = λ A. y .leaf (λ j v n c. omega (arith, same-tag j, A j (used-to X j v) (used-ne X j v) (cut-lone S u z X j v n c)));
+      leaf = λ A. y .leaf (cut-pending S u z X t A);
     }
-
--- what a node at some depth is
-shallow-root : {parts : ℕ} {N : List ℕ} {i : ℕ} → Prunes parts N i → depth N i ≡ 0 → i ≡ 0
-shallow-root {N = N} {i = i} P d = ⊎-elim (λ e. e) (λ (g : 0 < i). absurd (omega (arith, P .shape .good i (P .live g) .deeper))) (zero-or i)
-
-deep-pos : {parts : ℕ} {N : List ℕ} {i k : ℕ} → Prunes parts N i → depth N i ≡ suc k → 0 < i
-deep-pos {N = N} {i = i} P d = ⊎-elim (λ (e : i ≡ 0). absurd (omega (arith, ap (depth N) e, P .shape .root .no-depth))) (λ g. g) (zero-or i)
 
 -- The law of pruning from a node upwards
 pub trimmed : {parts : ℕ} (k : ℕ) (N : List ℕ) (i : ℕ) → Prunes parts N i → depth N i ≡ k → Trimmed parts N (prune N k i) i
-trimmed zero N i P d = rw (prune-root N i) (stopped P (λ u c. absurd (omega (arith, used-pos (climb (P .shape)) i u, shallow-root P d))))
+trimmed zero N i P d = rw (prune-root N i) (stopped P (λ u c. absurd (omega (arith, P .shape .good i u .deeper))))
 trimmed (suc k) N i P d = ⊎-elim
     (λ (t : tag N i ≡ 0). ⊎-elim
     (λ (z : child N i ≡ 0).
-    let g : 0 < i = deep-pos P d in
+    let g : 0 < i = used-pos (climb (P .shape)) i (deep-used (climb (P .shape)) i (P .live) (omega arith)) in
     let e : depth (unlink N i) (parent N i) ≡ k = omega (arith, up-depth P g z) in
     rw (prune-goes N k i t z) (higher P g t z (trimmed k (unlink N i) (parent N i) (up-prunes P g z) e)))
     (λ (h : 0 < child N i). rw (prune-child N k i (λ q. omega arith)) (stopped P (λ u c. absurd (omega arith))))

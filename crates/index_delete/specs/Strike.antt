@@ -1,14 +1,12 @@
 -- Document 01, "Deletion clears the tag, then from that node upwards zeroes and unlinks each node but the root that has neither tag nor
--- child, and
--- stops at the first that must stay", word for word.
+-- child, and stops at the first that must stay", word for word.
 use mathlib.Core.Bool.{_&&_, cond}
 use mathlib.Core.List.{List}
 use Prim.Native.Nat.{ℕ, zero, suc}
 use lib.ListN.{set}
 use Rattle.ground.specs.Lists.{isZero}
 use Rattle.nodes.specs.Nodes.{at, tagWord, parent, child, depth, tag}
-use Rattle.index_links.specs.Links.{unlink}
-use Rattle.index_insert.specs.Enter.{nodeOf}
+use Rattle.index_links.specs.Links.{nodeOf, unlink}
 
 -- from node i upwards, k nodes at most: each that has neither tag nor child is zeroed and unlinked; the first that must stay ends it
 unfoldable pub prune : List ℕ → ℕ → ℕ → List ℕ

@@ -1,5 +1,5 @@
 -- A row is entered: the table keeps its shape, has the row's node, and takes as many free nodes as the row lacked.
-use mathlib.Core.Path.{_≡_, refl, sym, ap, ap₂, subst, _∙_}
+use mathlib.Core.Path.{_≡_, refl, sym, ap, subst, _∙_}
 use mathlib.Core.Logic.{⊎-elim, _≢_}
 use mathlib.Core.List.{List, [], _∷_, _++_, append-assoc, append-nil}
 use Prim.Native.Nat.{ℕ, zero, suc, _+_, _≤_, _<_}
@@ -15,12 +15,12 @@ use Rattle.nodes.proofs.Lists.{zero-or, same-or}
 use Rattle.nodes.proofs.Rows.{climb, used-pos, live-inside, row-length, row-step}
 use Rattle.nodes.proofs.Chain.{ended}
 use Rattle.index_links.specs.Links.{childWith, link}
-use Rattle.index_links.proofs.Chains.{with-found, with-lone}
-use Rattle.index_links.proofs.Splice.{Spliced, Placed, placed-shape, placed-lone, placed-parent, placed-tags, new-used, new-row, rows-same, used-to, used-from, same-size}
-use Rattle.index_links.proofs.Linked.{Room, placed}
+use Rattle.index_links.proofs.Chains.{with-found, with-row, with-lone}
+use Rattle.index_links.proofs.Splice.{Pending, Spliced, Room, Placed, placed-shape, placed-tags, placed-pending, new-used, new-row, rows-same, used-to, same-size}
+use Rattle.index_links.proofs.Linked.{placed}
 use Rattle.index_insert.specs.Enter.{lowestFree, enter, lacks}
 use Rattle.index_insert.specs.Inner.{Enters}
-use Rattle.index_insert.proofs.Retag as T
+use Rattle.index_links.proofs.Retag as T
 use Rattle.index_insert.proofs.Free.{Lowest, lowest, one-fewer, as-many}
 
 -- One step of entering: a child that is there, and one that is missing
@@ -75,14 +75,15 @@ module _ {parts : ℕ} {N : List ℕ} {p l : ℕ} {ls : List ℕ} (E : Enters pa
   old-is : Used N c × (parent N c ≡ p) × (label N c ≡ l)
   old-is = with-found S (live-inside (climb S) p (E .live)) l c refl (omega arith)
 
-  pub old-row : rowOf N (childWith N p l) ≡ rowOf N p ++ (l ∷ [])
-  old-row = row-step (climb S) c (old-is .0) ∙ ap₂ (λ (q x : ℕ). rowOf N q ++ (x ∷ [])) (old-is .1) (old-is .2)
+  old-row : rowOf N c ++ ls ≡ rowOf N p ++ (l ∷ ls)
+  old-row =
+      ap (λ (r : List ℕ). r ++ ls) (with-row S (live-inside (climb S) p (E .live)) l c refl (omega arith)) ∙ append-assoc (rowOf N p) (l ∷ []) ls
 
   pub old-enters : Enters parts N (childWith N p l) ls
   old-enters = record {
     shape = S;
     live = λ _. old-is .0;
-    row = subst (GoodRow parts) (sym (ap (λ (r : List ℕ). r ++ ls) old-row ∙ append-assoc (rowOf N p) (l ∷ []) ls)) (E .row);
+    row = subst (GoodRow parts) (sym old-row) (E .row);
     room = omega (arith, lacks-old N p l ls n, E .room);
   }
 
@@ -158,17 +159,16 @@ module _ {parts : ℕ} {N : List ℕ} {p l : ℕ} {ls : List ℕ} (E : Enters pa
   pub new-lacks : lacks (link N p l (lowestFree N)) (lowestFree N) ls ≡ length ls
   new-lacks = lacks-lone new-shape f (new-used SN is-placed .inside) (is-placed .child-f) ls
 
+  taken-row : rowOf L f ++ ls ≡ rowOf N p ++ (l ∷ ls)
+  taken-row = ap (λ (x : List ℕ). x ++ ls) (new-row SN is-placed) ∙ append-assoc (rowOf N p) (l ∷ []) ls
+
   pub new-enters : Enters parts (link N p l (lowestFree N)) (lowestFree N) ls
   new-enters = record {
     shape = new-shape;
     live = f-live;
-    row = subst (GoodRow parts) (sym (ap (λ (x : List ℕ). x ++ ls) (new-row SN is-placed) ∙ append-assoc (rowOf N p) (l ∷ []) ls)) (E .row);
+    row = subst (GoodRow parts) (sym taken-row) (E .row);
     room = omega (arith, took-one, new-lacks, lacks-new N p l ls z, E .room);
   }
-
--- every used node but p that has no child has a tag
-abbrev pub Pending : List ℕ → ℕ → Type 0
-Pending N p = (i : ℕ) → Used N i → i ≢ p → child N i ≡ 0 → 0 < tag N i
 
 -- M is N with the row r entered, with the tag t: `new` nodes were taken
 pub record Entered (parts : ℕ) (N M : List ℕ) (p : ℕ) (r : List ℕ) (t new : ℕ) : Type 0 where
@@ -200,7 +200,7 @@ tag-set {N = N} p t S l =
       rows = λ i _. T.retag-row N p t i;
       leaf = λ g P i u c. ⊎-elim
           (λ (e : i ≡ p). omega (arith, ap (tag M) e, T.retag-here N p t h))
-          (λ (n : i ≢ p). omega (arith, T.retag-other N p t i n, P i (T.retag-from N p t i u) n (sym (T.retag-child N p t i) ∙ c)))
+          (λ (n : i ≢ p). T.retag-pending N p t P i u n c)
           (same-or i p);
       taken = omega (arith, ap length (as-many S (T.retag-shape N p t S l) (omega (arith, T.retag-length N p t)) (T.retag-label N p t)));
     }
@@ -210,14 +210,13 @@ through-old : {parts : ℕ} {N M : List ℕ} {p l t new : ℕ} {ls : List ℕ} (
     Entered parts N M (childWith N p l) (rowOf N (childWith N p l) ++ ls) t new → Entered parts N M p (rowOf N p ++ (l ∷ ls)) t new
 through-old {parts = parts} {N = N} {p = p} {l = l} {ls = ls} E n y =
     let S : Shape parts N = E .shape in
-    let is : Used N (childWith N p l) × (parent N (childWith N p l) ≡ p) × (label N (childWith N p l) ≡ l) = with-found S
-    (live-inside (climb S) p (E .live)) l (childWith N p l) refl (omega arith) in
+    let is : Used N (childWith N p l) × (parent N (childWith N p l) ≡ p) × (label N (childWith N p l) ≡ l) = old-is E n in
     record {
       same-length = y .same-length;
       shape = y .shape;
       end = y .end;
       live = y .live;
-      is = y .is ∙ ap (λ (r : List ℕ). r ++ ls) (old-row E n) ∙ append-assoc (rowOf N p) (l ∷ []) ls;
+      is = y .is ∙ old-row E n;
       has = y .has;
       tags = y .tags;
       used = y .used;
@@ -244,15 +243,12 @@ through-new {parts = parts} {N = N} {p = p} {l = l} {ls = ls} E z y =
       shape = y .shape;
       end = y .end;
       live = y .live;
-      is = y .is ∙ ap (λ (r : List ℕ). r ++ ls) (new-row S P) ∙ append-assoc (rowOf N p) (l ∷ []) ls;
+      is = y .is ∙ taken-row E z;
       has = y .has;
       tags = λ i n. y .tags i n ∙ placed-tags S P i;
       used = λ i u. y .used i (used-to X i u);
       rows = λ i v. y .rows i (λ g. used-to X i (v g)) ∙ rows-same X (climb S) i v;
-      leaf = λ g A. y .leaf g (λ i u n c.
-          let v : Used N i = used-from X i n u in
-          let m : i ≢ p = λ (e : i ≡ p). placed-parent S P (ap (child (link N p l (lowestFree N))) (sym e) ∙ c) in
-          omega (arith, placed-tags S P i, A i v m (placed-lone S P i (v .inside) n c)));
+      leaf = λ g A. y .leaf g (placed-pending S P A);
       taken = omega (arith, took-one E z, y .taken);
     }
 

@@ -57,7 +57,7 @@ module _ {N₀ us N : List ℕ} {p₀ d₀ t p a d f : ℕ} (G : Growing N₀ us
   grow-links = record {
     reads = record { shape = now .enters .shape; inside = live-inside (climb (now .enters .shape)) p (now .enters .live) };
     inside = f-inside;
-    deep = is-placed (now .enters) new .deep;
+    deep = is-placed (now .enters) new .room .deep;
   }
 
   pub grow-next : {L : List ℕ} → L ≡ link N p (getD us d 0) f → Growing N₀ us p₀ d₀ t L f (f + 1) (d + 1)

@@ -25,11 +25,6 @@ unfoldable pub lacks : List ℕ → ℕ → List ℕ → ℕ
 lacks N p [] = 0
 lacks N p (l ∷ ls) = let c = childWith N p l in cond (isZero c) (length (l ∷ ls)) (lacks N c ls)
 
--- the node at the end of a row that the table has below p
-unfoldable pub nodeOf : List ℕ → ℕ → List ℕ → ℕ
-nodeOf N p [] = p
-nodeOf N p (l ∷ ls) = nodeOf N (childWith N p l) ls
-
 -- kits entered one after the other
 unfoldable pub enterAll : List ℕ → List Kit → List ℕ
 enterAll N [] = N

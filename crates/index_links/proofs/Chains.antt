@@ -1,8 +1,8 @@
 -- The chain of a node's children as a list: it is whole, its labels rise; which child has a label, and where a label's link stands.
-use mathlib.Core.Path.{_≡_, refl, sym, ap, subst, _∙_}
+use mathlib.Core.Path.{_≡_, refl, sym, ap, ap₂, subst, _∙_}
 use mathlib.Core.Logic.{⊎-elim, _≢_}
 use mathlib.Core.Bool.{Bool, true, false, cond}
-use mathlib.Core.List.{List, [], _∷_, List·Memᴰ, List·Memᴰ·head, List·Memᴰ·tail, List·Memᴰ·not-nil, List·Memᴰ·cases-cons}
+use mathlib.Core.List.{List, [], _∷_, _++_, List·Memᴰ, List·Memᴰ·head, List·Memᴰ·tail, List·Memᴰ·not-nil, List·Memᴰ·cases-cons}
 use Prim.Native.Nat.{ℕ, zero, suc, _≤_, _<_}
 use native.Mathlib.Omega.{arith}
 use lib.ListN.{length}
@@ -10,10 +10,10 @@ use lib.Dec.{ltb}
 use borrow.Author.Tests.{eqb-true, eqb-false, eq-eqb, ne-eqb, lt-ltb, le-ltb, ltb-true, ltb-false}
 use Rattle.ground.specs.Lists.{from, firstOr}
 use Rattle.ground.proofs.Laws.{length-from, by-cond}
-use Rattle.nodes.specs.Nodes.{parent, child, next, label, size, chain, children}
+use Rattle.nodes.specs.Nodes.{parent, child, next, label, size, rowOf, chain, children}
 use Rattle.nodes.specs.Inner.{Used, Live, OnChain, Shape, Siblings}
 use Rattle.nodes.proofs.Sorted.{Every, Rising, none, also, ahead, every-mem, rising-apart, no-longer, mem-from}
-use Rattle.nodes.proofs.Rows.{climb, used-pos}
+use Rattle.nodes.proofs.Rows.{climb, used-pos, row-step}
 use Rattle.nodes.proofs.Chain.{siblings, left, left-less, children-have}
 use Rattle.index_links.specs.Links.{hasLabel, childWith, lastBelow}
 use Rattle.index_links.specs.Inner.{Chained, ends, goes}
@@ -208,6 +208,11 @@ module _ {parts : ℕ} {N : List ℕ} (S : Shape parts N) {p : ℕ} (inside : p 
       take-apart (some {r = r} m q) e =
           subst (λ (x : ℕ). Used N x × (parent N x ≡ p) × (label N x ≡ l)) e (child-used r m, child-mine r m, eqb-true (label N r) l q)
       take-apart (missing v) e = absurd (omega arith)
+
+  -- its row
+  pub with-row : (l c : ℕ) → childWith N p l ≡ c → 0 < c → rowOf N c ≡ rowOf N p ++ (l ∷ [])
+  with-row l c e g = let w = with-found l c e g in
+      row-step (climb S) c (w .0) ∙ ap₂ (λ (q x : ℕ). rowOf N q ++ (x ∷ [])) (w .1) (w .2)
 
   -- and where there is none
   pub with-missing : (l : ℕ) → childWith N p l ≡ 0 → (j : ℕ) → Used N j → parent N j ≡ p → label N j ≢ l

@@ -1,6 +1,6 @@
 -- Linking a free node in, and unlinking a used one, splice it: the link to it stands in one word, and in no other.
 use mathlib.Core.Path.{_≡_, refl, sym, ap, subst, _∙_}
-use mathlib.Core.Logic.{_⊎_, inl, inr, ⊎-elim, _≢_}
+use mathlib.Core.Logic.{inl, inr, ⊎-elim, _≢_}
 use mathlib.Core.Bool.{cond}
 use mathlib.Core.List.{List, [], _∷_, List·Memᴰ}
 use Prim.Native.Nat.{ℕ, zero, suc, _+_, _≤_, _<_}
@@ -8,18 +8,17 @@ use native.Mathlib.Omega.{arith}
 use lib.ListN.{length, getD}
 use borrow.Author.Tests.{ne-eqb}
 use Rattle.ground.specs.Lists.{isZero}
-use Rattle.kits.specs.Kits.{count, mostUnits, mostQuantity}
-use Rattle.nodes.specs.Nodes.{wordsPerNode, childWord, nextWord, at, word, parent, child, next, label, depth, size, rowOf, children}
+use Rattle.nodes.specs.Nodes.{wordsPerNode, childWord, nextWord, at, word, parent, child, next, label, depth, size, children}
 use Rattle.nodes.specs.Inner.{Used, Live, Zero, OnChain, here, later, Shape}
 use Rattle.nodes.proofs.Lists.{zero-or, same-or}
 use Rattle.nodes.proofs.Rows.{climb, used-pos, live-inside}
 use Rattle.nodes.proofs.Chain.{siblings}
-use Rattle.index_links.specs.Links.{childWith, lastBelow, linkTo, link, unlink}
+use Rattle.index_links.specs.Links.{lastBelow, linkTo, link, unlink}
 use Rattle.index_links.proofs.Chains.{Stands, first, after, stands, stands-first, stands-after, Led, at-start, behind, led}
 use Rattle.index_links.proofs.Chains.{the-children, child-lives, child-used, child-mine, mine-child, with-missing}
 use Rattle.index_links.proofs.Seeking.{link-first, link-after}
 use Rattle.index_links.proofs.Words.{link-length, link-mine, link-other, link-here, unlink-length, unlink-mine, unlink-other, unlink-here}
-use Rattle.index_links.proofs.Splice.{Spliced, Placed, Goes, chain-to}
+use Rattle.index_links.proofs.Splice.{Spliced, Room, Placed, Goes, chain-to}
 
 -- a node and the link to a label below it
 data Where (N : List ℕ) (p l w : ℕ) : Type 0 where
@@ -41,26 +40,40 @@ module _ {parts : ℕ} {N : List ℕ} (S : Shape parts N) where
       go (first f) = at-first refl f
       go (after {r = r} m k f) = rw (ne-eqb r 0 (λ e. omega (arith, used-pos (climb S) r (child-used S h r m)))) (at-next r m refl k f)
 
-  -- every link is none or to a used node
-  pub next-lives : (i : ℕ) → i < size N → Live N (next N i)
-  next-lives zero h = λ g. absurd (omega (arith, S .root .no-next))
-  next-lives (suc i) h = ⊎-elim
-      (λ (z : label N (suc i) ≡ 0). λ g. absurd (omega (arith, S .free (suc i) (omega arith) h z 2 (omega arith))))
-      (λ (g : 0 < label N (suc i)). S .good (suc i) (record { inside = h; named = g }) .sibling)
+  -- a node with a next sibling is used, and so is that sibling
+  before-used : (i : ℕ) → i < size N → 0 < next N i → Used N i
+  before-used zero h g = absurd (omega (arith, S .root .no-next))
+  before-used (suc i) h g = ⊎-elim
+      (λ (z : label N (suc i) ≡ 0). absurd (omega (arith, S .free (suc i) (omega arith) h z 2 (omega arith))))
+      (λ (k : 0 < label N (suc i)). record { inside = h; named = k })
       (zero-or (label N (suc i)))
 
--- what is known of the place of a new node
-pub record Room (parts : ℕ) (N : List ℕ) (p l f : ℕ) : Type 0 where
-  pub pos : 0 < f
-  pub inside : f < size N
-  pub zero : Zero N f
-  pub live : Live N p
-  pub named : 0 < l
-  pub place : l ≤ parts
-  pub rising : label N p ≤ l
-  pub deep : depth N p < mostUnits
-  pub few : count l (rowOf N p) < mostQuantity
-  pub fresh : childWith N p l ≡ 0
+  next-lives : (i : ℕ) → i < size N → Live N (next N i)
+  next-lives i h g = S .good i (before-used i h g) .sibling g
+
+-- Two tables that differ in the words of f and in one link, word m of node q: in M it leads to f, in N to what comes behind f.
+module _ (N M : List ℕ) {f : ℕ} (q m : ℕ) (some : 0 < m) (low : m < 3) (to-f : word M q m ≡ f) (to-next : word N q m ≡ next M f)
+    (kept : (i k : ℕ) → k < wordsPerNode → i ≢ f → at i k ≢ at q m → word M i k ≡ word N i k) where
+  goes : (i k : ℕ) → k < wordsPerNode → i ≢ f → (word M i k ≡ f → at i k ≡ at q m) → Goes M f (word M i k) (word N i k)
+  goes i k h n o = ⊎-elim
+      (λ (e : at i k ≡ at q m). inr (ap (λ (j : ℕ). getD M j 0) e ∙ to-f, ap (λ (j : ℕ). getD N j 0) e ∙ to-next))
+      (λ (e : at i k ≢ at q m). inl (λ z. e (o z), sym (kept i k h n e)))
+      (same-or (at i k) (at q m))
+
+  splices : 0 < f → f < size N → length M ≡ length N → Zero N f → ((i : ℕ) → i < size N → i ≢ f → child M i ≡ f → at i 1 ≡ at q m) →
+      ((i : ℕ) → i < size N → i ≢ f → next M i ≡ f → at i 2 ≡ at q m) → Spliced N M f
+  splices g inside same-length zeros child-here next-here = record {
+    pos = g;
+    inside = inside;
+    same-length = same-length;
+    zero = zeros;
+    parents = λ i n. kept i 0 (omega arith) n (omega (arith, some, low));
+    labels = λ i n. kept i 3 (omega arith) n (omega (arith, low));
+    depths = λ i n. kept i 4 (omega arith) n (omega (arith, low));
+    tags = λ i n. kept i 5 (omega arith) n (omega (arith, low));
+    childs = λ i h n. goes i 1 (omega arith) n (child-here i h n);
+    nexts = λ i h n. goes i 2 (omega arith) n (next-here i h n);
+  }
 
 module _ {parts : ℕ} {N : List ℕ} {p l f : ℕ} (S : Shape parts N) (R : Room parts N p l f) where
   abbrev M : List ℕ
@@ -78,15 +91,9 @@ module _ {parts : ℕ} {N : List ℕ} {p l f : ℕ} (S : Shape parts N) (R : Roo
       (zero-or i)
 
   -- the link stands in word m of node q
-  module _ (q m : ℕ) (w : linkTo N p l ≡ at q m) (is : (m ≡ 1) ⊎ (m ≡ 2)) (ql : Live N q) where
+  module _ (q m : ℕ) (w : linkTo N p l ≡ at q m) (some : 0 < m) (low : m < 3) (ql : Live N q) where
     small : m < wordsPerNode
-    small = ⊎-elim (λ (e : m ≡ 1). omega arith) (λ (e : m ≡ 2). omega arith) is
-
-    some : 0 < m
-    some = ⊎-elim (λ (e : m ≡ 1). omega arith) (λ (e : m ≡ 2). omega arith) is
-
-    low : m < 3
-    low = ⊎-elim (λ (e : m ≡ 1). omega arith) (λ (e : m ≡ 2). omega arith) is
+    small = omega arith
 
     qn : q ≢ f
     qn = free-ne q ql
@@ -103,58 +110,44 @@ module _ {parts : ℕ} {N : List ℕ} {p l f : ℕ} (S : Shape parts N) (R : Roo
     next-f : next M f ≡ getD N (at q m) 0
     next-f = mine 2 (omega arith) ∙ ap (λ (j : ℕ). getD N j 0) w
 
-    goes : (i k : ℕ) → k < wordsPerNode → i ≢ f → word N i k ≢ f → Goes M f (word M i k) (word N i k)
-    goes i k h n o = ⊎-elim
-        (λ (e : at i k ≡ at q m). inr
-        (ap (λ (j : ℕ). getD M j 0) e ∙ link-here N p l f q m (R .inside) w small qn qin, ap (λ (j : ℕ). getD N j 0) e ∙ sym next-f))
-        (λ (e : at i k ≢ at q m). let s : word M i k ≡ word N i k = other i k h n e in inl (λ z. o (sym s ∙ z), sym s))
-        (same-or (at i k) (at q m))
-
-    is-spliced : Spliced N M f
-    is-spliced = record {
-      pos = R .pos;
-      inside = R .inside;
-      same-length = link-length N p l f q m (R .inside) w small qn qin;
-      zero = R .zero;
-      parents = λ i n. other i 0 (omega arith) n (omega (arith, some, small));
-      labels = λ i n. other i 3 (omega arith) n (omega (arith, low));
-      depths = λ i n. other i 4 (omega arith) n (omega (arith, low));
-      tags = λ i n. other i 5 (omega arith) n (omega (arith, low));
-      childs = λ i h n. goes i 1 (omega arith) n (free-ne (child N i) (S .head i h .first));
-      nexts = λ i h n. goes i 2 (omega arith) n (free-ne (next N i) (next-lives S i h));
-    }
+    here-is : word M q m ≡ f
+    here-is = link-here N p l f q m (R .inside) w small qn qin
 
     -- a link of M to f stands in that word
-    only : (i k : ℕ) → k < wordsPerNode → i ≢ f → word N i k ≢ f → word M i k ≡ f → at i k ≡ at q m
-    only i k h n o e = ⊎-elim (λ z. z) (λ (z : at i k ≢ at q m). absurd (o (sym (other i k h n z) ∙ e))) (same-or (at i k) (at q m))
+    only : (i k : ℕ) → k < wordsPerNode → i ≢ f → Live N (word N i k) → word M i k ≡ f → at i k ≡ at q m
+    only i k h n v e =
+        ⊎-elim (λ z. z) (λ (z : at i k ≢ at q m). absurd (free-ne (word N i k) v (sym (other i k h n z) ∙ e))) (same-or (at i k) (at q m))
+
+    only-child : (i : ℕ) → i < size N → i ≢ f → child M i ≡ f → at i 1 ≡ at q m
+    only-child i h n = only i 1 (omega arith) n (S .head i h .first)
+
+    only-next : (i : ℕ) → i < size N → i ≢ f → next M i ≡ f → at i 2 ≡ at q m
+    only-next i h n = only i 2 (omega arith) n (next-lives S i h)
+
+    is-spliced : Spliced N M f
+    is-spliced =
+        splices N M q m some low here-is (sym next-f) other (R .pos) (R .inside) (link-length N p l f q m (R .inside) w small qn qin) (R .zero)
+        only-child only-next
 
     -- where the node that comes behind is known, and that the chain comes to f
     is-placed : Live N (getD N (at q m) 0) → (0 < getD N (at q m) 0 → parent N (getD N (at q m) 0) ≡ p) →
         (0 < getD N (at q m) 0 → l < label N (getD N (at q m) 0)) → ((i : ℕ) → at i 1 ≡ at q m → i ≡ p) →
         ((i : ℕ) → at i 2 ≡ at q m → Used N i × (parent N i ≡ p) × (label N i < l)) → OnChain M (child M p) f → Placed parts N M p l f
     is-placed nl nm nr cp np on = record {
+      room = R;
       spliced = is-spliced;
       parent-f = mine 0 (omega arith);
       child-f = mine 1 (omega arith);
       label-f = mine 3 (omega arith);
       depth-f = mine 4 (omega arith);
       tag-f = mine 5 (omega arith);
-      live = R .live;
-      named = R .named;
-      place = R .place;
-      rising = R .rising;
-      deep = R .deep;
-      few = R .few;
       next-live = rw next-f nl;
       next-mine = rw next-f nm;
       next-more = rw next-f nr;
-      child-to = λ i h n e. cp i (only i 1 (omega arith) n (free-ne (child N i) (S .head i h .first)) e);
-      next-to = λ i h n e. np i (only i 2 (omega arith) n (free-ne (next N i) (next-lives S i h)) e);
+      child-to = λ i h n e. cp i (only-child i h n e);
+      next-to = λ i h n e. np i (only-next i h n e);
       chained = on;
     }
-
-    pub here-is : word M q m ≡ f
-    here-is = link-here N p l f q m (R .inside) w small qn qin
 
   -- The law: a free node that is linked in takes its place among the children.
   pub placed : Placed parts N (link N p l f) p l f
@@ -166,9 +159,9 @@ module _ {parts : ℕ} {N : List ℕ} {p l f : ℕ} (S : Shape parts N) (R : Roo
       by-where : Where N p l (linkTo N p l) → Placed parts N (link N p l f) p l f
       by-where (at-first w k) =
           let c : (i : ℕ) → at i 1 ≡ at p 1 → i ≡ p = λ i e. omega arith in
-          is-placed p 1 w (inl refl) (R .live) (S .head p home .first) (S .head p home .back)
+          is-placed p 1 w (omega arith) (omega arith) (R .live) (S .head p home .first) (S .head p home .back)
           (λ g. more (child N p) (S .head p home .first g) (S .head p home .back g) (k g)) c (λ i e. absurd (omega arith))
-          (subst (λ (x : ℕ). OnChain M x f) (sym (here-is p 1 w (inl refl) (R .live))) here)
+          (subst (λ (x : ℕ). OnChain M x f) (sym (here-is p 1 w (omega arith) (omega arith) (R .live))) here)
       by-where (at-next b m w k r) =
           let u : Used N b = child-used S home b m in
           let e : parent N b ≡ p = child-mine S home b m in
@@ -177,13 +170,13 @@ module _ {parts : ℕ} {N : List ℕ} {p l f : ℕ} (S : Shape parts N) (R : Roo
           let bn : b ≢ f = free-ne b bl in
           let np : (i : ℕ) → at i 2 ≡ at b 2 → Used N i × (parent N i ≡ p) × (label N i < l) = λ i q. let z : i ≡ b = omega arith in
           rw z (u, e, k) in
-          let x : Spliced N M f = is-spliced b 2 w (inr refl) bl in
+          let x : Spliced N M f = is-spliced b 2 w (omega arith) (omega arith) bl in
           let ob : OnChain N (child N p) b = subst (λ (q : ℕ). OnChain N (child N q) b) e (g .chained) in
           let om : OnChain M (child M p) b = chain-to x (child M p) (child N p) b (λ j v. S .good j v .sibling) (S .head p home .first)
           (x .childs p home (free-ne p (R .live))) ob in
-          let on : OnChain M (child M p) f = subst (OnChain M (child M p)) (here-is b 2 w (inr refl) bl)
+          let on : OnChain M (child M p) f = subst (OnChain M (child M p)) (here-is b 2 w (omega arith) (omega arith) bl)
           (one-more om (used-pos (climb S) b u)) in
-          is-placed b 2 w (inr refl) bl (g .sibling) (λ h. g .same h ∙ e) (λ h. more (next N b) (g .sibling h) (g .same h ∙ e) (r h))
+          is-placed b 2 w (omega arith) (omega arith) bl (g .sibling) (λ h. g .same h ∙ e) (λ h. more (next N b) (g .sibling h) (g .same h ∙ e) (r h))
           (λ i q. absurd (omega arith)) np on
 
 -- Unlinking
@@ -209,11 +202,7 @@ module _ {parts : ℕ} {M : List ℕ} {f : ℕ} (S : Shape parts M) (u : Used M 
       (child-lives S qhome)
 
   before-f : (i : ℕ) → i < size M → next M i ≡ f → Used M i
-  before-f zero h e = absurd (omega (arith, S .root .no-next, gf))
-  before-f (suc i) h e = ⊎-elim
-      (λ (z : label M (suc i) ≡ 0). absurd (omega (arith, S .free (suc i) (omega arith) h z 2 (omega arith), gf)))
-      (λ (g : 0 < label M (suc i)). record { inside = h; named = g })
-      (zero-or (label M (suc i)))
+  before-f i h e = before-used S i h (omega (arith, gf))
 
   is-next : (i : ℕ) → i < size M → next M i ≡ f → B ≡ i
   is-next i h e =
@@ -226,43 +215,18 @@ module _ {parts : ℕ} {M : List ℕ} {f : ℕ} (S : Shape parts M) (u : Used M 
   child-of : (i : ℕ) → i < size M → child M i ≡ f → i ≡ Q
   child-of i h e = sym (S .head i h .back (omega (arith, gf))) ∙ ap (parent M) e
 
-  module _ (q m : ℕ) (w : linkTo M (parent M f) (label M f) ≡ at q m) (is : (m ≡ 1) ⊎ (m ≡ 2)) (qn : q ≢ f) (qin : q < size M)
+  module _ (q m : ℕ) (w : linkTo M (parent M f) (label M f) ≡ at q m) (some : 0 < m) (low : m < 3) (qn : q ≢ f) (qin : q < size M)
       (here-f : word M q m ≡ f) (no-child : (i : ℕ) → i < size M → child M i ≡ f → at i 1 ≡ at q m)
       (no-next : (i : ℕ) → i < size M → next M i ≡ f → at i 2 ≡ at q m) where
     tiny : m < wordsPerNode
-    tiny = ⊎-elim (λ (e : m ≡ 1). omega arith) (λ (e : m ≡ 2). omega arith) is
-
-    not-0 : 0 < m
-    not-0 = ⊎-elim (λ (e : m ≡ 1). omega arith) (λ (e : m ≡ 2). omega arith) is
-
-    not-3 : m < 3
-    not-3 = ⊎-elim (λ (e : m ≡ 1). omega arith) (λ (e : m ≡ 2). omega arith) is
-
-    kept : (i k : ℕ) → k < wordsPerNode → i ≢ f → at i k ≢ at q m → word M i k ≡ word (unlink M f) i k
-    kept i k h n o = sym (unlink-other M f q m (u .inside) w tiny qn qin i k h n o)
-
-    goes-on : (i k : ℕ) → k < wordsPerNode → i ≢ f → (word M i k ≡ f → at i k ≡ at q m) → Goes M f (word M i k) (word (unlink M f) i k)
-    goes-on i k h n o = ⊎-elim
-        (λ (e : at i k ≡ at q m). inr
-        (ap (λ (j : ℕ). getD M j 0) e ∙ here-f, ap (λ (j : ℕ). getD (unlink M f) j 0) e ∙ unlink-here M f q m (u .inside) w tiny qn qin))
-        (λ (e : at i k ≢ at q m). inl (λ z. e (o z), sym (kept i k h n e)))
-        (same-or (at i k) (at q m))
+    tiny = omega arith
 
     is-unlinked : Spliced (unlink M f) M f
     is-unlinked =
         let s : length (unlink M f) ≡ length M = unlink-length M f q m (u .inside) w tiny qn qin in
-        record {
-          pos = gf;
-          inside = omega (arith, u .inside);
-          same-length = sym s;
-          zero = λ k h. unlink-mine M f q m (u .inside) w tiny qn qin k h;
-          parents = λ i n. kept i 0 (omega arith) n (omega (arith, not-0, tiny));
-          labels = λ i n. kept i 3 (omega arith) n (omega (arith, not-3));
-          depths = λ i n. kept i 4 (omega arith) n (omega (arith, not-3));
-          tags = λ i n. kept i 5 (omega arith) n (omega (arith, not-3));
-          childs = λ i h n. goes-on i 1 (omega arith) n (no-child i (omega arith));
-          nexts = λ i h n. goes-on i 2 (omega arith) n (no-next i (omega arith));
-        }
+        splices (unlink M f) M q m some low here-f (unlink-here M f q m (u .inside) w tiny qn qin)
+        (λ i k h n o. sym (unlink-other M f q m (u .inside) w tiny qn qin i k h n o)) gf (omega (arith, u .inside)) (sym s)
+        (unlink-mine M f q m (u .inside) w tiny qn qin) (λ i h _. no-child i (omega arith)) (λ i h _. no-next i (omega arith))
 
   -- The law: a node that is unlinked is off its chain.
   pub unspliced : Spliced (unlink M f) M f
@@ -272,7 +236,7 @@ module _ {parts : ℕ} {M : List ℕ} {f : ℕ} (S : Shape parts M) (u : Used M 
       by-led (at-start e) =
           let z : B ≡ 0 = is-first e in
           let qn : Q ≢ f = λ k. omega (arith, S .good f u .deeper, ap (depth M) k) in
-          is-unlinked Q 1 (sym (link-first M Q (label M f) B refl z)) (inl refl) qn qhome e
+          is-unlinked Q 1 (sym (link-first M Q (label M f) B refl z)) (omega arith) (omega arith) qn qhome e
           (λ i h k. ap (λ (j : ℕ). at j 1) (child-of i h k))
           (λ i h k. absurd (omega (arith, is-next i h k, used-pos (climb S) i (before-f i h k))))
       by-led (behind b m e) =
@@ -281,6 +245,6 @@ module _ {parts : ℕ} {M : List ℕ} {f : ℕ} (S : Shape parts M) (u : Used M 
           let gb : 0 < b = used-pos (climb S) b v in
           let bn : b ≢ f = λ k. omega (arith, S .good b v .greater (omega (arith, gf)), ap (label M) e, ap (label M) k) in
           let w : linkTo M Q (label M f) ≡ at b 2 = sym (link-after M Q (label M f) B refl (λ k. omega arith)) ∙ ap (λ (j : ℕ). at j 2) z in
-          is-unlinked b 2 w (inr refl) bn (v .inside) e
+          is-unlinked b 2 w (omega arith) (omega arith) bn (v .inside) e
           (λ i h k. absurd (omega (arith, is-first (ap (child M) (sym (child-of i h k)) ∙ k))))
           (λ i h k. ap (λ (j : ℕ). at j 2) (sym (is-next i h k) ∙ z))

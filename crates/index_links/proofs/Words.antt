@@ -7,28 +7,31 @@ use native.Mathlib.Omega.{arith}
 use lib.ListN.{length, getD, set, take, drop, replicate, length-set, length-replicate, getD-replicate, List·getD-append}
 use lib.Seq.{getD-append-add, getD-take, getD-drop, getD-set-same, getD-set-other, length-take-le}
 use Rattle.ground.specs.Laid.{laid}
-use Rattle.ground.proofs.Laid.{laid-one, laid-set, length-laid}
+use Rattle.ground.proofs.Laid.{laid-one, laid-set, laid-is, length-laid}
 use Rattle.ground.proofs.Laws.{le-or}
 use Rattle.nodes.specs.Nodes.{wordsPerNode, parentWord, at, word, parent, next, label, depth, size}
 use Rattle.index_links.specs.Links.{linkTo, link, unlink}
 
 -- six stores in a row
-next-laid : (N : List ℕ) (a : ℕ) (bs : List ℕ) (k b : ℕ) → k ≡ a + length bs → k < length N →
-    set (laid N a bs) k b ≡ laid N a (bs ++ (b ∷ []))
-next-laid N a bs k b e h = rw e (laid-set N a bs b (omega arith))
+next-laid : (N : List ℕ) (a : ℕ) (bs : List ℕ) (k b : ℕ) → k ≡ a + length bs → set (laid N a bs) k b ≡ laid N a (bs ++ (b ∷ []))
+next-laid N a bs k b e = rw e (laid-set N a bs b)
 
-pub six-laid : (N : List ℕ) (a u v w x y z : ℕ) → a + 5 < length N →
-    set (set (set (set (set (set N (a + 0) u) (a + 1) v) (a + 2) w) (a + 3) x) (a + 4) y) (a + 5) z ≡ laid N (a + 0)
-    (u ∷ v ∷ w ∷ x ∷ y ∷ z ∷ [])
-six-laid N a u v w x y z h =
-    let b : ℕ = a + 0 in
+pub six-laid : (N : List ℕ) (f u v w x y z : ℕ) {A B C D E F : List ℕ} → A ≡ set N (at f 0) u → B ≡ set A (at f 1) v → C ≡ set B (at f 2) w →
+    D ≡ set C (at f 3) x → E ≡ set D (at f 4) y → F ≡ set E (at f 5) z → F ≡ laid N (at f parentWord) (u ∷ v ∷ w ∷ x ∷ y ∷ z ∷ [])
+six-laid N f u v w x y z hA hB hC hD hE hF =
     rw (
-      laid-one N (a + 0) u (omega arith),
-      next-laid N (a + 0) (u ∷ []) (a + 1) v (omega arith) (omega arith),
-      next-laid N (a + 0) (u ∷ v ∷ []) (a + 2) w (omega arith) (omega arith),
-      next-laid N (a + 0) (u ∷ v ∷ w ∷ []) (a + 3) x (omega arith) (omega arith),
-      next-laid N (a + 0) (u ∷ v ∷ w ∷ x ∷ []) (a + 4) y (omega arith) (omega arith),
-      next-laid N (a + 0) (u ∷ v ∷ w ∷ x ∷ y ∷ []) (a + 5) z (omega arith) (omega arith),
+      hF,
+      hE,
+      hD,
+      hC,
+      hB,
+      hA,
+      laid-one N (at f 0) u,
+      next-laid N (at f 0) (u ∷ []) (at f 1) v (omega arith),
+      next-laid N (at f 0) (u ∷ v ∷ []) (at f 2) w (omega arith),
+      next-laid N (at f 0) (u ∷ v ∷ w ∷ []) (at f 3) x (omega arith),
+      next-laid N (at f 0) (u ∷ v ∷ w ∷ x ∷ []) (at f 4) y (omega arith),
+      next-laid N (at f 0) (u ∷ v ∷ w ∷ x ∷ y ∷ []) (at f 5) z (omega arith),
     )
 
 -- a list with something laid over it, element by element
@@ -42,20 +45,18 @@ module _ (l : List ℕ) (a : ℕ) (bs : List ℕ) (h : a + length bs ≤ length 
   front = length-take-le a l (omega arith)
 
   pub laid-on : (k : ℕ) → k < length bs → getD (laid l a bs) (a + k) 0 ≡ getD bs k 0
-  unfolding laid
   laid-on k g =
       let e : a + k - length (take a l) ≡ k = omega (arith, front) in
-      past (take a l) (bs ++ drop (a + length bs) l) (a + k) (omega (arith, front)) ∙ ap
-      (λ (m : ℕ). getD (bs ++ drop (a + length bs) l) m 0) e ∙ List·getD-append bs (drop (a + length bs) l) 0 k g
+      rw (laid-is l a bs h) (past (take a l) (bs ++ drop (a + length bs) l) (a + k) (omega (arith, front)) ∙ ap
+      (λ (m : ℕ). getD (bs ++ drop (a + length bs) l) m 0) e ∙ List·getD-append bs (drop (a + length bs) l) 0 k g)
 
   pub laid-off : (j : ℕ) → (j < a) ⊎ (a + length bs ≤ j) → getD (laid l a bs) j 0 ≡ getD l j 0
-  unfolding laid
-  laid-off j = ⊎-elim
+  laid-off j = rw (laid-is l a bs h) (⊎-elim
       (λ (g : j < a). List·getD-append (take a l) (bs ++ drop (a + length bs) l) 0 j (omega (arith, front)) ∙ getD-take a l j 0 g)
       (λ (g : a + length bs ≤ j).
       let e : a + length bs + (j - length (take a l) - length bs) ≡ j = omega (arith, front) in
       past (take a l) (bs ++ drop (a + length bs) l) j (omega (arith, front)) ∙ past bs (drop (a + length bs) l) (j - length (take a l))
-      (omega (arith, front)) ∙ getD-drop (a + length bs) l (j - length (take a l) - length bs) 0 ∙ ap (λ (m : ℕ). getD l m 0) e)
+      (omega (arith, front)) ∙ getD-drop (a + length bs) l (j - length (take a l) - length bs) 0 ∙ ap (λ (m : ℕ). getD l m 0) e))
 
 -- the words of node f laid anew
 module _ (N : List ℕ) (f : ℕ) (bs : List ℕ) (six : length bs ≡ wordsPerNode) (inside : f < size N) where
@@ -63,7 +64,7 @@ module _ (N : List ℕ) (f : ℕ) (bs : List ℕ) (six : length bs ≡ wordsPerN
   room = omega arith
 
   pub laid-length : length (laid N (at f parentWord) bs) ≡ length N
-  laid-length = length-laid N (at f parentWord) bs room
+  laid-length = length-laid N (at f parentWord) bs
 
   pub laid-same : (k : ℕ) → k < wordsPerNode → word (laid N (at f parentWord) bs) f k ≡ getD bs k 0
   laid-same k h = let e : at f k ≡ at f parentWord + k = omega arith in

@@ -3,8 +3,9 @@ ghost use mathlib.Core.Path.{_≡_};
 ghost use mathlib.Core.List.{[], _∷_};
 ghost use Prim.Native.Nat.{_<_};
 ghost use lib.ListN.{length, set};
+ghost use Rattle.ground.specs.Limits.{twoLimit};
 ghost use Rattle.ground.specs.Laid.{laid};
-ghost use Rattle.nodes.specs.Nodes.{at, parentWord, tagWord, size, children};
+ghost use Rattle.nodes.specs.Nodes.{wordsPerNode, at, parentWord, tagWord, size, children};
 ghost use Rattle.index_links.specs.Links.{childWith, lastBelow, linkTo, link as linked, unlink as unlinked};
 ghost use Rattle.index_links.specs.Inner.{Reads, LinksTo, Unlinks};
 use nodes::CHILD;
@@ -22,7 +23,7 @@ use nodes::parent_at;
 
 // A number that a word can hold, as a word.
 fn narrow16(x: usize) -> u16
-    requires { ⌜ x < 65536 ⌝ }
+    requires { ⌜ x < twoLimit ⌝ }
     ensures { λ r. ⌜ r ≡ x ⌝ }
 {
     x as u16
@@ -76,17 +77,25 @@ fn link_to(nodes: &[u16], p: usize, l: u16) -> usize
     b * WORDS + NEXT
 }
 
+// Sets word k of node i.
+fn set_word(nodes: &mut [u16], i: usize, k: usize, w: u16)
+    requires { ⌜ i < size (now nodes) ⌝ ∗ ⌜ k < wordsPerNode ⌝ }
+    ensures { λ _. ⌜ now (nodes .exit) ≡ set (now (nodes .entry)) (at i k) w ⌝ }
+{
+    nodes[i * WORDS + k] = w;
+}
+
 // Writes the words of node f: it has no child and no tag.
 fn put_node(nodes: &mut [u16], f: usize, parent: u16, next: u16, label: u16, depth: u16)
     requires { ⌜ f < size (now nodes) ⌝ }
     ensures { λ _. ⌜ now (nodes .exit) ≡ laid (now (nodes .entry)) (at f parentWord) (parent ∷ 0 ∷ next ∷ label ∷ depth ∷ 0 ∷ []) ⌝ }
 {
-    nodes[f * WORDS + PARENT] = parent;
-    nodes[f * WORDS + CHILD] = 0;
-    nodes[f * WORDS + NEXT] = next;
-    nodes[f * WORDS + LABEL] = label;
-    nodes[f * WORDS + DEPTH] = depth;
-    nodes[f * WORDS + TAG] = 0;
+    set_word(nodes, f, PARENT, parent);
+    set_word(nodes, f, CHILD, 0);
+    set_word(nodes, f, NEXT, next);
+    set_word(nodes, f, LABEL, label);
+    set_word(nodes, f, DEPTH, depth);
+    set_word(nodes, f, TAG, 0);
 }
 
 // Links node f in as p's child with the label l.
@@ -119,5 +128,5 @@ pub fn put_tag(nodes: &mut [u16], i: usize, t: u16)
     requires { ⌜ i < size (now nodes) ⌝ }
     ensures { λ _. ⌜ now (nodes .exit) ≡ set (now (nodes .entry)) (at i tagWord) t ⌝ }
 {
-    nodes[i * WORDS + TAG] = t;
+    set_word(nodes, i, TAG, t);
 }

@@ -1,12 +1,12 @@
 -- Inner: no promise of the house rests on what stands here; inner contracts and proofs speak by it.
 -- Good rows, rows of 64 places and their lines, and inclusion decided label by label.
 use mathlib.Core.Path.{_≡_}
-use mathlib.Core.Bool.{Bool, true, false, _&&_, _||_, cond}
+use mathlib.Core.Bool.{Bool, true, false, _&&_, cond}
 use mathlib.Core.List.{List, [], _∷_, _++_, map}
-use Prim.Native.Nat.{ℕ, suc, _+_, _/_, _%_, _≤_, _<_, _-_}
+use Prim.Native.Nat.{ℕ, suc, _+_, _/_, _≤_, _<_, _-_}
 use lib.ListN.{length, replicate, getD, take, drop}
-use lib.Dec.{leb, ltb, eqb}
-use Rattle.ground.specs.Lists.{isZero, eqList, from, firstOr}
+use lib.Dec.{ltb, eqb}
+use Rattle.ground.specs.Lists.{eqList, from, firstOr}
 use Rattle.kits.specs.Kits.{mostQuantity, mostUnits, mostPlace, count, before, listOf}
 use Rattle.kits.specs.declared.Row.{Row}
 use Rattle.kits.specs.declared.Line.{Line}

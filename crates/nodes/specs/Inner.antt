@@ -44,8 +44,8 @@ pub record Root (N : List ℕ) : Type 0 where
   pub no-depth : depth N 0 ≡ 0
 
 -- of "every other used node": "a used parent (the root counts), depth one more than its parent's and at most 64, and a label from 1 to the
--- number
--- of parts, at least its parent's label; no path has more than 15 equal labels"; its next sibling; and it is "found on its parent's chain"
+-- number of parts, at least its parent's label; no path has more than 15 equal labels"; its next sibling; and it is "found on its parent's
+-- chain"
 pub record Good (parts : ℕ) (N : List ℕ) (i : ℕ) : Type 0 where
   pub above : Live N (parent N i)
   pub deeper : depth N i ≡ depth N (parent N i) + 1

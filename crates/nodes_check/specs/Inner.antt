@@ -1,7 +1,6 @@
 -- Inner: no promise of the house rests on what stands here; inner contracts and proofs speak by it.
 -- `nodes_sound` decides `nodesSound` (nodes, specs/Sound): what each of its passes asks on the way, of a node by itself, of the chains
--- together, of the
--- equal labels on a path, of the tags.
+-- together, of the equal labels on a path, of the tags.
 use mathlib.Core.Path.{_≡_}
 use mathlib.Core.List.{List}
 use Prim.Native.Nat.{ℕ, _+_, _/_, _%_, _^_, _<_, _≤_}

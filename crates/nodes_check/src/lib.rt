@@ -3,7 +3,6 @@
 ghost use mathlib.Core.Path.{_≡_};
 ghost use mathlib.Core.Bool.{true};
 ghost use Prim.Native.Nat.{_+_, _<_, _/_};
-ghost use lib.ListN.{length};
 ghost use Rattle.ground.specs.Inner.{Says};
 ghost use Rattle.nodes.specs.Nodes.{child, next, size, nodesLength};
 ghost use Rattle.nodes.specs.Sound.{nodesSound};

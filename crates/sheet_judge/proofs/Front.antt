@@ -10,9 +10,9 @@ use lib.Seq.{drop-drop}
 use borrow.Author.Tests.{le-leb, lt-leb, eq-eqb, ne-eqb, leb-true, leb-false}
 use Rattle.ground.specs.Limits.{mostParts}
 use Rattle.ground.specs.Lists.{eqList}
-use Rattle.sheet.specs.Bytes.{fromBytes}
-use Rattle.sheet.specs.Sheet.{mark, version}
-use Rattle.sheet.specs.Inner.{headBytes}
+use Rattle.sheet.specs.Bytes.{fromBytes, twoBytes}
+use Rattle.sheet.specs.Sheet.{mark, version, markBytes}
+use Rattle.sheet.specs.Inner.{headBytes, versionAt, partsAt}
 use Rattle.sheet.specs.Reading.{Item, item, fault, Reading, onward, one, bytes, anyTwo, isVersion, goodPartCount, numbers, Front, front, runOf, whole, decode}
 use Rattle.sheet_judge.specs.Inner.{behindNumbers, Headed, placeOf}
 
@@ -69,18 +69,18 @@ place-item a bs o = refl
 
 -- Two bytes at a place
 module _ (good : List ℕ → Bool) (s : List ℕ) (at : ℕ) where
-  pub two-short : at ≤ length s → length s - at < 2 → one (bytes 2) good (drop at s) at ≡ fault at
+  pub two-short : at ≤ length s → length s - at < twoBytes → one (bytes twoBytes) good (drop at s) at ≡ fault at
   unfolding bytes
-  two-short h k = one-short (bytes 2) good (drop at s) at (rw length-drop k)
+  two-short h k = one-short (bytes twoBytes) good (drop at s) at (rw length-drop k)
 
-  pub two-bad : good (take 2 (drop at s)) ≡ false → one (bytes 2) good (drop at s) at ≡ fault at
+  pub two-bad : good (take twoBytes (drop at s)) ≡ false → one (bytes twoBytes) good (drop at s) at ≡ fault at
   unfolding bytes
-  two-bad e = one-bad (bytes 2) good (drop at s) at e
+  two-bad e = one-bad (bytes twoBytes) good (drop at s) at e
 
-  pub two-ok : at + 2 ≤ length s → good (take 2 (drop at s)) ≡ true →
-      one (bytes 2) good (drop at s) at ≡ item (take 2 (drop at s)) (drop (at + 2) s) (at + 2)
+  pub two-ok : at + twoBytes ≤ length s → good (take twoBytes (drop at s)) ≡ true →
+      one (bytes twoBytes) good (drop at s) at ≡ item (take twoBytes (drop at s)) (drop (at + twoBytes) s) (at + twoBytes)
   unfolding bytes
-  two-ok h e = one-ok (bytes 2) good (drop at s) at (rw length-drop (omega arith)) e ∙ rw (drop-drop) refl
+  two-ok h e = one-ok (bytes twoBytes) good (drop at s) at (rw length-drop (omega arith)) e ∙ rw (drop-drop) refl
 
 onward-item : {A B : Type 0} (a : A) (bs : List ℕ) (o : ℕ) (f : A → Reading B) → onward (item a bs o) f ≡ f a bs o
 unfolding onward
@@ -88,12 +88,12 @@ onward-item a bs o f = refl
 
 -- What follows the numbers
 behind-all : (m : Item (List (List ℕ))) →
-    onward (onward m (λ ns bs o. onward (one (bytes 2) anyTwo bs o)
+    onward (onward m (λ ns bs o. onward (one (bytes twoBytes) anyTwo bs o)
     (λ k rest p. item (record { parts = ns; announced = fromBytes k }) rest p)))
     (λ (f : Front) bs o. whole (f .parts) (runOf f bs o)) ≡ onward m behindNumbers
 unfolding onward behindNumbers runOf
 behind-all (fault o) = refl
-behind-all (item ns bs o) = go (one (bytes 2) anyTwo bs o)
+behind-all (item ns bs o) = go (one (bytes twoBytes) anyTwo bs o)
   where
     go : (x : Item (List ℕ)) →
         onward (onward x (λ k rest p. item (record { parts = ns; announced = fromBytes k }) rest p))
@@ -104,50 +104,50 @@ behind-all (item ns bs o) = go (one (bytes 2) anyTwo bs o)
 
 -- The head of a sheet
 module _ (s : List ℕ) where
-  mark-item : 3 ≤ length s → eqList mark (take 3 s) ≡ true → one (bytes 3) (eqList mark) s 0 ≡ item (take 3 s) (drop 3 s) 3
+  mark-item : markBytes ≤ length s → eqList mark (take markBytes s) ≡ true → one (bytes markBytes) (eqList mark) s 0 ≡ item (take markBytes s) (drop versionAt s) versionAt
   unfolding bytes
-  mark-item h e = one-ok (bytes 3) (eqList mark) s 0 h e
+  mark-item h e = one-ok (bytes markBytes) (eqList mark) s 0 h e
 
-  pub no-mark : length s < 3 → decode s ≡ fault 0
+  pub no-mark : length s < markBytes → decode s ≡ fault 0
   unfolding decode front onward bytes
-  no-mark h = let e = one-short (bytes 3) (eqList mark) s 0 h in rw e
+  no-mark h = let e = one-short (bytes markBytes) (eqList mark) s 0 h in rw e
 
-  pub bad-mark : eqList mark (take 3 s) ≡ false → decode s ≡ fault 0
+  pub bad-mark : eqList mark (take markBytes s) ≡ false → decode s ≡ fault 0
   unfolding decode front onward bytes
-  bad-mark f = let e = one-bad (bytes 3) (eqList mark) s 0 f in rw e
+  bad-mark f = let e = one-bad (bytes markBytes) (eqList mark) s 0 f in rw e
 
-  module _ (h : 3 ≤ length s) (m : eqList mark (take 3 s) ≡ true) where
-    version-fault : one (bytes 2) isVersion (drop 3 s) 3 ≡ fault 3 → decode s ≡ fault 3
+  module _ (h : markBytes ≤ length s) (m : eqList mark (take markBytes s) ≡ true) where
+    version-fault : one (bytes twoBytes) isVersion (drop versionAt s) versionAt ≡ fault versionAt → decode s ≡ fault versionAt
     unfolding decode front onward
     version-fault e = let f = mark-item h m in rw (f, e)
 
-    pub no-version : length s < 5 → decode s ≡ fault 3
-    no-version k = version-fault (two-short isVersion s 3 h (omega arith))
+    pub no-version : length s < partsAt → decode s ≡ fault versionAt
+    no-version k = version-fault (two-short isVersion s versionAt h (omega arith))
 
-    pub bad-version : (fromBytes (take 2 (drop 3 s)) ≡ version → ⊥) → decode s ≡ fault 3
+    pub bad-version : (fromBytes (take twoBytes (drop versionAt s)) ≡ version → ⊥) → decode s ≡ fault versionAt
     unfolding isVersion
-    bad-version f = version-fault (two-bad isVersion s 3 (ne-eqb (fromBytes (take 2 (drop 3 s))) version f))
+    bad-version f = version-fault (two-bad isVersion s versionAt (ne-eqb (fromBytes (take twoBytes (drop versionAt s))) version f))
 
-    module _ (k : 5 ≤ length s) (v : fromBytes (take 2 (drop 3 s)) ≡ version) where
-      version-item : one (bytes 2) isVersion (drop 3 s) 3 ≡ item (take 2 (drop 3 s)) (drop 5 s) 5
+    module _ (k : partsAt ≤ length s) (v : fromBytes (take twoBytes (drop versionAt s)) ≡ version) where
+      version-item : one (bytes twoBytes) isVersion (drop versionAt s) versionAt ≡ item (take twoBytes (drop versionAt s)) (drop partsAt s) partsAt
       unfolding isVersion
-      version-item = two-ok isVersion s 3 k (eq-eqb (fromBytes (take 2 (drop 3 s))) version v)
+      version-item = two-ok isVersion s versionAt k (eq-eqb (fromBytes (take twoBytes (drop versionAt s))) version v)
 
-      count-fault : one (bytes 2) goodPartCount (drop 5 s) 5 ≡ fault 5 → decode s ≡ fault 5
+      count-fault : one (bytes twoBytes) goodPartCount (drop partsAt s) partsAt ≡ fault partsAt → decode s ≡ fault partsAt
       unfolding decode front onward
       count-fault e = let f = mark-item h m in let g = version-item in rw (f, g, e)
 
-      pub no-count : length s < headBytes → decode s ≡ fault 5
-      no-count l = count-fault (two-short goodPartCount s 5 k (omega arith))
+      pub no-count : length s < headBytes → decode s ≡ fault partsAt
+      no-count l = count-fault (two-short goodPartCount s partsAt k (omega arith))
 
-      pub bad-count : mostParts < fromBytes (take 2 (drop 5 s)) → decode s ≡ fault 5
+      pub bad-count : mostParts < fromBytes (take twoBytes (drop partsAt s)) → decode s ≡ fault partsAt
       unfolding goodPartCount
-      bad-count l = count-fault (two-bad goodPartCount s 5 (lt-leb (fromBytes (take 2 (drop 5 s))) mostParts l))
+      bad-count l = count-fault (two-bad goodPartCount s partsAt (lt-leb (fromBytes (take twoBytes (drop partsAt s))) mostParts l))
 
-      module _ (n : ℕ) (l : headBytes ≤ length s) (e : n ≡ fromBytes (take 2 (drop 5 s))) (b : n ≤ mostParts) where
-        count-item : one (bytes 2) goodPartCount (drop 5 s) 5 ≡ item (take 2 (drop 5 s)) (drop headBytes s) headBytes
+      module _ (n : ℕ) (l : headBytes ≤ length s) (e : n ≡ fromBytes (take twoBytes (drop partsAt s))) (b : n ≤ mostParts) where
+        count-item : one (bytes twoBytes) goodPartCount (drop partsAt s) partsAt ≡ item (take twoBytes (drop partsAt s)) (drop headBytes s) headBytes
         unfolding goodPartCount
-        count-item = two-ok goodPartCount s 5 l (le-leb (fromBytes (take 2 (drop 5 s))) mostParts (omega arith))
+        count-item = two-ok goodPartCount s partsAt l (le-leb (fromBytes (take twoBytes (drop partsAt s))) mostParts (omega arith))
 
         numbers-next : decode s ≡ onward (numbers n [] (drop headBytes s) headBytes) behindNumbers
         unfolding decode front

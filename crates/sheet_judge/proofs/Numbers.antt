@@ -2,54 +2,21 @@
 use mathlib.Core.Path.{_≡_, refl, ap, sym, _∙_}
 use mathlib.Core.Bool.{Bool, true, false, _||_, not}
 use mathlib.Core.List.{List, [], _∷_, _++_, append-assoc, append-nil}
-use Prim.Native.Nat.{ℕ, zero, suc, _+_, _-_, _≤_, _<_}
-use native.Mathlib.Nat.{add-zero, sub-zero}
+use Prim.Native.Nat.{ℕ, suc, _+_, _-_, _≤_, _<_}
+use native.Mathlib.Nat.{sub-zero}
 use native.Mathlib.Numerals.{add-one}
 use native.Mathlib.Omega.{arith}
 use lib.ListN.{length, take, drop, getD, length-drop}
-use lib.Seq.{drop-drop, getD-drop}
+use lib.Seq.{drop-drop}
 use Rattle.ground.specs.Lists.{anyb, every, eqList}
 use Rattle.ground.proofs.Laws.{anyb-append}
 use Rattle.register.specs.Number.{goodNumber}
 use Rattle.sheet.specs.Reading.{Item, item, fault, onward, one, numberSize, newNumber, numbers}
-use Rattle.sheet_judge.specs.Inner.{numberHere, nextPlace, numbersAt, endAt, placeOf, Numbered}
+use Rattle.sheet.specs.Inner.{numberHere, nextPlace, numbersAt, endAt}
+use Rattle.sheet.proofs.Places.{end-last, numbers-at-last, numbers-many, size-here, size-some, read-here}
+use Rattle.sheet_judge.specs.Inner.{placeOf, Numbered}
 use Rattle.sheet.specs.Inner.{headBytes}
 use Rattle.sheet_judge.proofs.Front.{one-short, one-bad, one-ok, place-fault, place-item, place-moved, place-stays, Moved}
-
-module _ (s : List ℕ) where
-  -- the first number, and those behind it
-  pub end-step : (j i k : ℕ) → i < k → endAt s j (k - i) ≡ endAt s (nextPlace s j) (k - (i + 1))
-  unfolding endAt
-  end-step j i k h = let e : k - i ≡ suc (k - (i + 1)) = omega arith in rw e
-
-  pub numbers-at-step : (j i k : ℕ) → i < k → numbersAt s j (k - i) ≡ numberHere s j ∷ numbersAt s (nextPlace s j) (k - (i + 1))
-  unfolding numbersAt
-  numbers-at-step j i k h = let e : k - i ≡ suc (k - (i + 1)) = omega arith in rw e
-
-  pub numbers-at-end : (j i k : ℕ) → k ≤ i → numbersAt s j (k - i) ≡ []
-  unfolding numbersAt
-  numbers-at-end j i k h = let e : k - i ≡ 0 = omega arith in rw e
-
-  pub end-behind : (j k : ℕ) → j ≤ endAt s j k
-  unfolding endAt
-  end-behind j zero = omega arith
-  end-behind j (suc k) = omega (arith, end-behind (nextPlace s j) k)
-
-  -- the last number
-  pub end-last : (j k : ℕ) → endAt s j (suc k) ≡ nextPlace s (endAt s j k)
-  unfolding endAt
-  end-last j zero = refl
-  end-last j (suc k) = end-last (nextPlace s j) k
-
-  pub numbers-at-last : (j k : ℕ) → numbersAt s j (suc k) ≡ numbersAt s j k ++ (numberHere s (endAt s j k) ∷ [])
-  unfolding numbersAt endAt
-  numbers-at-last j zero = refl
-  numbers-at-last j (suc k) = ap (_∷_ (numberHere s j)) (numbers-at-last (nextPlace s j) k)
-
-  pub numbers-many : (j k : ℕ) → length (numbersAt s j k) ≡ k
-  unfolding numbersAt
-  numbers-many j zero = refl
-  numbers-many j (suc k) = ap suc (numbers-many (nextPlace s j) k)
 
 any-cons : (p : List ℕ → Bool) (x : List ℕ) (xs : List (List ℕ)) → anyb p (x ∷ xs) ≡ (p x || anyb p xs)
 unfolding anyb
@@ -69,43 +36,22 @@ any-end p = refl
 
 -- The number at a place
 module _ (s : List ℕ) (at : ℕ) where
-  size-here : numberSize (drop at s) ≡ 1 + getD s at 0
-  unfolding numberSize
-  size-here = rw (getD-drop at s 0 0, add-zero)
-
-  size-some : 0 < numberSize (drop at s)
-  size-some = omega (arith, size-here)
-
-  pub read-here : drop 1 (take (numberSize (drop at s)) (drop at s)) ≡ numberHere s at
-  read-here = rw (size-here) (drop-first (getD s at 0) (drop at s) ∙ rw (drop-drop) refl)
-    where
-      drop-first : (n : ℕ) (l : List ℕ) → drop 1 (take (1 + n) l) ≡ take n (drop 1 l)
-      drop-first n l = let e : 1 + n ≡ suc n = omega arith in rw e (go l)
-        where
-          go : (l : List ℕ) → drop 1 (take (suc n) l) ≡ take n (drop 1 l)
-          go [] = take-none n
-            where
-              take-none : (n : ℕ) → [] ≡ take {A = ℕ} n []
-              take-none zero = refl
-              take-none (suc n) = refl
-          go (x ∷ l) = refl
-
   module _ (seen : List (List ℕ)) where
     abbrev this : Item (List ℕ)
     this = one numberSize (newNumber seen) (drop at s) at
 
     new-here : newNumber seen (take (numberSize (drop at s)) (drop at s)) ≡ every (goodNumber (numberHere s at) ∷ not (anyb (eqList (numberHere s at)) seen) ∷ [])
     unfolding newNumber
-    new-here = rw read-here
+    new-here = rw (read-here s at)
 
     pub number-none : length s ≤ at → at ≡ placeOf this
     number-none h =
-        sym (ap placeOf (one-short numberSize (newNumber seen) (drop at s) at (omega (arith, length-drop at s, size-some))) ∙ place-fault
+        sym (ap placeOf (one-short numberSize (newNumber seen) (drop at s) at (omega (arith, length-drop at s, size-some s at))) ∙ place-fault
         at)
 
-    pub number-cut : at < length s → length s - (at + 1) < getD s at 0 → at ≡ placeOf this
+    pub number-cut : at < length s → length s - at < 1 + getD s at 0 → at ≡ placeOf this
     number-cut h k =
-        sym (ap placeOf (one-short numberSize (newNumber seen) (drop at s) at (omega (arith, length-drop at s, size-here))) ∙ place-fault
+        sym (ap placeOf (one-short numberSize (newNumber seen) (drop at s) at (omega (arith, length-drop at s, size-here s at))) ∙ place-fault
         at)
 
     pub number-bad : goodNumber (numberHere s at) ≡ false → at ≡ placeOf this
@@ -120,8 +66,8 @@ module _ (s : List ℕ) (at : ℕ) where
         anyb (eqList (numberHere s at)) seen ≡ false → at + 1 + getD s at 0 ≡ placeOf this
     unfolding every
     number-taken l g h =
-        let i = one-ok numberSize (newNumber seen) (drop at s) at (omega (arith, length-drop at s, size-here)) (new-here ∙ rw (g, h)) in
-        let e : at + 1 + getD s at 0 ≡ at + numberSize (drop at s) = omega (arith, size-here) in
+        let i = one-ok numberSize (newNumber seen) (drop at s) at (omega (arith, length-drop at s, size-here s at)) (new-here ∙ rw (g, h)) in
+        let e : at + 1 + getD s at 0 ≡ at + numberSize (drop at s) = omega (arith, size-here s at) in
         e ∙ sym (ap placeOf i ∙ place-item (take (numberSize (drop at s)) (drop at s)) (drop (numberSize (drop at s)) (drop at s))
         (at + numberSize (drop at s)))
 

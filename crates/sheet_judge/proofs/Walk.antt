@@ -9,13 +9,14 @@ use lib.ListN.{length, take, drop, getD, set, length-drop, length-append, length
 use lib.Dec.{eqb}
 use lib.Seq.{drop-drop, getD-set-same, getD-set-other}
 use borrow.Author.Tests.{eq-eqb, ne-eqb, eqb-true, eqb-false}
+use Rattle.ground.specs.Limits.{twoLimit}
 use Rattle.ground.specs.Lists.{anyb, isZero}
 use Rattle.kits.specs.Kits.{units, mostUnits}
 use Rattle.kits.specs.Inner.{agreed, unitsIn, fixedRow}
 use Rattle.kits.specs.declared.Row.{Row}
 use Rattle.kits.proofs.Rows.{row-back}
 use Rattle.nodes.specs.Held.{Kit, allBeginnings}
-use Rattle.sheet.specs.Bytes.{fromBytes, twoLimit, Bytes}
+use Rattle.sheet.specs.Bytes.{fromBytes, Bytes, twoBytes}
 use Rattle.sheet.specs.Sheet.{Contents, placeBytes}
 use Rattle.sheet.specs.Inner.{rising, headBytes}
 use Rattle.sheet.specs.Reading.{item, fault, onward, one, anyTwo, numbers, decode, recordSize, kitIn, hasTag, newKit, Run, stop, also, unless, records, whole}
@@ -23,11 +24,12 @@ use Rattle.sheet.specs.declared.Sheet.{Sheet}
 use Rattle.sheet.proofs.Accepted.{records-back}
 use Rattle.sheet.proofs.Laws.{new-kits-rise}
 use Rattle.sheet.proofs.Written.{any-good}
-use Rattle.sheet_judge.specs.Inner.{judgedOf, sheetOf, behindNumbers, Numbered, recordAt, listAt, WholeAt, Tags, Latest, growth}
+use Rattle.sheet.specs.Inner.{recordAt, listAt, WholeAt}
+use Rattle.sheet_judge.specs.Inner.{judgedOf, sheetOf, behindNumbers, Numbered, Tags, Latest, growth}
 use Rattle.sheet_judge.specs.declared.Judged.the-variants.{Fault, Good}
 use Rattle.sheet_judge.proofs.Front.{one-ok, two-short, two-ok}
 use Rattle.sheet_judge.proofs.Growth.{growth-beginnings, lastRow, growth-last, last-row}
-use Rattle.sheet_judge.proofs.Records.{size-at, tag-is, row-is}
+use Rattle.sheet.proofs.Places.{size-at, tag-is, row-is}
 
 -- kits read before those of a run
 unfoldable pub prepend : List Kit → Run → Run
@@ -170,7 +172,7 @@ module _ {s : List ℕ} {from parts n : ℕ} {marks : List ℕ} {prev : Row} {no
   -- one record more
   module _ (h : k < n) (w : WholeAt s at) (good : newKit placeBytes parts (J .seen) (recordAt s at) ≡ true) (row : Row)
       (is-row : row ≡ fixedRow (units (listAt s at))) (fits : length (units (listAt s at)) ≤ mostUnits)
-      (t : ℕ) (tag-read : t ≡ fromBytes (take 2 (drop at s))) (small : t < twoLimit) (g : ℕ)
+      (t : ℕ) (tag-read : t ≡ fromBytes (take twoBytes (drop at s))) (small : t < twoLimit) (g : ℕ)
       (alike : g ≡ agreed (unitsIn prev) (unitsIn row)) (r : ℕ) (ends : r ≡ at + recordSize placeBytes (drop at s)) where
     abbrev kit : Kit
     kit = kitIn placeBytes (recordAt s at)
@@ -225,10 +227,10 @@ module _ (s : List ℕ) (at : ℕ) (ps : List (List ℕ)) where
   unfolding judgedOf behindNumbers onward
   count-short h k = let e = two-short anyTwo s at h k in rw e
 
-  pub count-read : (n m : ℕ) → at + 2 ≤ length s → n ≡ length ps → m ≡ fromBytes (take 2 (drop at s)) →
+  pub count-read : (n m : ℕ) → at + 2 ≤ length s → n ≡ length ps → m ≡ fromBytes (take twoBytes (drop at s)) →
       judgedOf (whole ps (records placeBytes m n [] (drop (at + 2) s) (at + 2))) ≡ judgedOf (behindNumbers ps (drop at s) at)
   unfolding behindNumbers onward
-  count-read n m h e f = let i = two-ok anyTwo s at h (any-good (take 2 (drop at s))) in rw (i, e, f)
+  count-read n m h e f = let i = two-ok anyTwo s at h (any-good (take twoBytes (drop at s))) in rw (i, e, f)
 
 -- the numbers, and what follows them
 pub numbers-fault : (s : List ℕ) (n o : ℕ) → numbers n [] (drop headBytes s) headBytes ≡ fault o →

@@ -1,21 +1,21 @@
 -- Inner: no promise of the house rests on what stands here; inner contracts and proofs speak by it.
 -- What the judge of a sheet answers, and what each of its functions says of the sheet from a place on.
 use mathlib.Core.Path.{_≡_}
-use mathlib.Core.Bool.{Bool, _&&_, cond, not}
+use mathlib.Core.Bool.{Bool, _&&_, not}
 use mathlib.Core.List.{List, [], _∷_}
-use Prim.Native.Nat.{ℕ, zero, suc, _+_, _-_, _*_, _≤_, _<_}
-use lib.ListN.{length, take, drop, getD}
+use Prim.Native.Nat.{ℕ, _+_, _-_, _≤_, _<_}
+use lib.ListN.{length, drop, getD}
 use lib.Dec.{leb}
-use Rattle.ground.specs.Limits.{mostParts}
+use Rattle.ground.specs.Limits.{mostParts, twoLimit}
 use Rattle.ground.specs.Lists.{anyb, isZero}
 use Rattle.kits.specs.Kits.{goodList, units, mostUnits}
 use Rattle.kits.specs.Inner.{agreed, unitsIn}
 use Rattle.kits.specs.declared.Row.{Row}
 use Rattle.nodes.specs.Held.{Kit}
-use Rattle.sheet.specs.Bytes.{fromBytes, twoLimit}
+use Rattle.sheet.specs.Bytes.{fromBytes, twoBytes}
 use Rattle.sheet.specs.Sheet.{Contents, placeBytes, nodesNeeded}
 use Rattle.sheet.specs.Inner.{headBytes}
-use Rattle.sheet.specs.Reading.{Item, item, fault, Reading, onward, one, bytes, anyTwo, numbers, recordSize, hasTag, records, whole, decode}
+use Rattle.sheet.specs.Reading.{Item, item, fault, Reading, onward, one, bytes, anyTwo, numbers, hasTag, records, whole, decode}
 use Rattle.sheet.specs.declared.Sheet.{Sheet}
 use Rattle.sheet_judge.specs.declared.Judged.{Judged}
 use Rattle.sheet_judge.specs.declared.Judged.the-variants.{Fault, Good}
@@ -33,7 +33,7 @@ judgedOf (fault o) = Fault o
 
 -- behind the numbers ps: kit count, kit records, the end
 unfoldable pub behindNumbers : List (List ℕ) → Reading Contents
-behindNumbers ps bs o = onward (one (bytes 2) anyTwo bs o) (λ k rest p. whole ps (records placeBytes (fromBytes k) (length ps) [] rest p))
+behindNumbers ps bs o = onward (one (bytes twoBytes) anyTwo bs o) (λ k rest p. whole ps (records placeBytes (fromBytes k) (length ps) [] rest p))
 
 -- mark, version and part count were read: the part count, or the first fault
 pub record Headed (s : List ℕ) (n : ℕ) : Type 0 where
@@ -56,41 +56,12 @@ abbrev pub numbersSay : List ℕ → ℕ → Read → Type 0
 numbersSay s n (read.Fault o) = numbers n [] (drop headBytes s) headBytes ≡ fault o
 numbersSay s n (read.Done at) = Numbered s n at
 
--- the number that stands at a place, and where it ends
-abbrev pub numberHere : List ℕ → ℕ → List ℕ
-numberHere s j = take (getD s j 0) (drop (j + 1) s)
-
-abbrev pub nextPlace : List ℕ → ℕ → ℕ
-nextPlace s j = j + 1 + getD s j 0
-
--- the first k numbers that stand from a place on, and where they end
-unfoldable pub numbersAt : List ℕ → ℕ → ℕ → List (List ℕ)
-numbersAt s j zero = []
-numbersAt s j (suc k) = numberHere s j ∷ numbersAt s (nextPlace s j) k
-
-unfoldable pub endAt : List ℕ → ℕ → ℕ → ℕ
-endAt s j zero = j
-endAt s j (suc k) = endAt s (nextPlace s j) k
-
 -- where an item ends; where it is at fault, where it starts
 unfoldable pub placeOf : Item (List ℕ) → ℕ
 placeOf (item a bs o) = o
 placeOf (fault o) = o
 
--- a kit record at a place: its bytes, where it ends (where it is cut short, where it starts), and the list of its lines
-abbrev pub recordAt : List ℕ → ℕ → List ℕ
-recordAt s at = take (recordSize placeBytes (drop at s)) (drop at s)
-
-unfoldable pub recordEnd : List ℕ → ℕ → ℕ
-recordEnd s at = cond (leb (recordSize placeBytes (drop at s)) (length (drop at s))) (at + recordSize placeBytes (drop at s)) at
-
-abbrev pub listAt : List ℕ → ℕ → List ℕ
-listAt s at = take (getD s (at + 2) 0 * 2) (drop (at + 3) s)
-
-abbrev pub WholeAt : List ℕ → ℕ → Type 0
-WholeAt s at = at + 3 + getD s (at + 2) 0 * 2 ≤ length s
-
--- its lines obey the rules, with n parts
+-- the lines of a list obey the rules, with n parts
 unfoldable pub goodLines : ℕ → List ℕ → Bool
 goodLines n l = goodList n l && leb (length (units l)) mostUnits
 

@@ -3,33 +3,39 @@
 ghost use mathlib.Core.Path.{_≡_};
 ghost use mathlib.Core.Bool.{true, false};
 ghost use mathlib.Core.List.{List, []};
-ghost use Prim.Native.Nat.{ℕ, _+_, _*_, _<_, _≤_};
-ghost use lib.ListN.{length, take, drop, replicate};
+ghost use Prim.Native.Nat.{ℕ, _+_, _<_, _≤_};
+ghost use lib.ListN.{length, drop};
 ghost use Rattle.ground.specs.Limits.{mostParts};
 ghost use Rattle.ground.specs.Lists.{anyb, eqList};
-ghost use Rattle.ground.specs.Laid.{laid};
-ghost use Rattle.kits.specs.Kits.{mostUnits, units};
-ghost use Rattle.kits.specs.Inner.{fixedRow};
+ghost use Rattle.kits.specs.Kits.{mostUnits};
 ghost use Rattle.nodes.specs.Held.{Kit};
-ghost use Rattle.sheet.specs.Bytes.{fromBytes};
 ghost use Rattle.sheet.specs.Sheet.{placeBytes};
-ghost use Rattle.sheet.specs.Inner.{headBytes};
+ghost use Rattle.sheet.specs.Inner.{headBytes, numbersAt, endAt, recordAt, listAt, WholeAt};
 ghost use Rattle.sheet.specs.Reading.{onward, one, numbers, numberSize, newNumber, newKit, records, whole, decode};
-ghost use Rattle.sheet_judge.specs.Inner.{judgedOf, behindNumbers, headSays, numbersSay, numbersAt, endAt, placeOf, recordAt, recordEnd};
-ghost use Rattle.sheet_judge.specs.Inner.{listAt, WholeAt, goodLines, Tags, Latest};
+ghost use Rattle.sheet_judge.specs.Inner.{judgedOf, behindNumbers, headSays, numbersSay, placeOf, goodLines, Tags, Latest};
 use answers::refused;
 use ground::same;
-use ground::wide8;
 use ground::wide16;
 use kits::Compared;
+use kits::MOST_UNITS;
 use kits::Row;
 use kits::agree;
 use kits::check_list;
 use kits::compare;
 use kits::has_room;
-use kits::row_of;
 use register::good_number;
 use sheet::Sheet;
+use sheet::TWO_BYTES;
+use sheet::item_size;
+use sheet::lines_size;
+use sheet::list_in;
+use sheet::number_here;
+use sheet::record_end;
+use sheet::row_in;
+use sheet::two_at;
+
+// A two-byte tag is one of so many.
+const TAGS: usize = 0x1_0000;
 
 // What the judge answers.
 pub enum Judged {
@@ -43,20 +49,6 @@ pub enum Judged {
 enum Read {
     Fault(usize),
     Done(usize),
-}
-
-fn word(x: u8) -> u16
-    ensures { λ r. ⌜ r ≡ x ⌝ ∗ ⌜ r < 256 ⌝ }
-{
-    x as u16
-}
-
-// The two-byte number at a place.
-pub fn two_at(s: &[u8], at: usize) -> u16
-    requires { ⌜ at + 2 ≤ length (now s) ⌝ }
-    ensures { λ r. ⌜ r ≡ fromBytes (take 2 (drop at (now (s .entry)))) ⌝ }
-{
-    word(s[at]) * 256 + word(s[at + 1])
 }
 
 // Mark, version and part count.
@@ -94,12 +86,10 @@ fn repeated(s: &[u8], k: usize, num: &[u8]) -> bool
     let mut at = Sheet::HEAD;
     let mut i = 0;
     while i < k {
-        let start = at + 1;
-        let end = start + wide8(s[at]);
-        if same(num, &s[start..end]) {
+        if same(num, number_here(s, at)) {
             return true;
         }
-        at = end;
+        at += item_size(s, at);
         i += 1;
     }
     false
@@ -114,19 +104,18 @@ fn number_end(s: &[u8], at: usize, k: usize) -> usize
     if s.len() == at {
         return at;
     }
-    let start = at + 1;
-    let size = wide8(s[at]);
-    if s.len() - start < size {
+    let size = item_size(s, at);
+    if s.len() - at < size {
         return at;
     }
-    let end = start + size;
-    if !good_number(&s[start..end]) {
+    let num = number_here(s, at);
+    if !good_number(num) {
         return at;
     }
-    if repeated(s, k, &s[start..end]) {
+    if repeated(s, k, num) {
         return at;
     }
-    end
+    at + size
 }
 
 // n numbers, behind the head.
@@ -147,61 +136,21 @@ fn read_numbers(s: &[u8], n: usize) -> Read
     Read::Done(at)
 }
 
-// Where the kit record at a place ends; where it is cut short, where it starts.
-pub fn record_end(s: &[u8], at: usize) -> usize
-    requires { ⌜ at ≤ length (now s) ⌝ }
-    ensures { λ r. ⌜ r ≡ recordEnd (now (s .entry)) at ⌝ }
-{
-    if s.len() - at < 3 {
-        return at;
-    }
-    let lines = at + 3;
-    let size = wide8(s[at + 2]) * 2;
-    if s.len() - lines < size {
-        return at;
-    }
-    lines + size
-}
-
-// n bytes from a place on, as the numbers of a list.
-fn list_in(s: &[u8], from: usize, n: usize) -> [u16; 510]
-    requires { ⌜ (from + n ≤ length (now s)) × (n ≤ 510) ⌝ }
-    ensures { λ r. ⌜ r ≡ laid (replicate 510 0) 0 (take n (drop from (now (s .entry)))) ⌝ }
-{
-    let mut list = [0; 510];
-    let mut i = 0;
-    while i < n {
-        list[i] = word(s[from + i]);
-        i += 1;
-    }
-    list
-}
-
 // Whether the lines of the record at a place obey the rules, with so many parts.
 fn lines_good(s: &[u8], at: usize, parts: u16) -> bool
     requires { ⌜ WholeAt (now s) at ⌝ }
     ensures { λ r. ⌜ r ≡ goodLines parts (listAt (now (s .entry)) at) ⌝ }
 {
-    let n = wide8(s[at + 2]) * 2;
-    let list = list_in(s, at + 3, n);
+    let n = lines_size(s, at);
+    let list = list_in(s, at);
     if refused(check_list(&list[0..n], parts)) {
         return false;
     }
     has_room(&list[0..n])
 }
 
-// The row of the record at a place.
-pub fn row_in(s: &[u8], at: usize) -> Row
-    requires { ⌜ WholeAt (now s) at ⌝ ∗ ⌜ length (units (listAt (now s) at)) ≤ mostUnits ⌝ }
-    ensures { λ r. ⌜ r ≡ fixedRow (units (listAt (now (s .entry)) at)) ⌝ }
-{
-    let n = wide8(s[at + 2]) * 2;
-    let list = list_in(s, at + 3, n);
-    row_of(&list[0..n])
-}
-
 // Whether the record at a place, behind k others, is good: its tag, its lines, and that it comes after the one before.
-fn record_good(s: &[u8], at: usize, parts: u16, prev: Row, k: usize, tags: &[u8; 65536]) -> bool
+fn record_good(s: &[u8], at: usize, parts: u16, prev: Row, k: usize, tags: &[u8; TAGS]) -> bool
     requires { ⌜ WholeAt (now s) at ⌝ ∗ ⌜ prev .len ≤ mostUnits ⌝ }
     ensures { λ r. ⌜ ((seen : List Kit) → Tags (now (tags .entry)) seen → Latest prev k seen → r ≡ newKit placeBytes parts seen (recordAt (now (s .entry)) at)) ⌝ }
 {
@@ -232,9 +181,9 @@ fn judge_records(s: &[u8], from: usize, sheet: Sheet) -> Judged
 {
     let parts = sheet.parts;
     let n = wide16(sheet.kits);
-    let mut tags = [0; 65536];
+    let mut tags = [0; TAGS];
     let mut prev = Row {
-        places: [0; 64],
+        places: [0; MOST_UNITS],
         len: 0,
     };
     let mut nodes: usize = 1;
@@ -267,11 +216,11 @@ fn judge_kits(s: &[u8], at: usize, n: usize) -> Judged
     requires { ⌜ at ≤ length (now s) ⌝ ∗ ⌜ n ≤ mostParts ⌝ }
     ensures { λ r. ⌜ ((ps : List (List ℕ)) → length ps ≡ n → r ≡ judgedOf (behindNumbers ps (drop at (now (s .entry))) at)) ⌝ }
 {
-    if s.len() - at < 2 {
+    if s.len() - at < TWO_BYTES {
         return Judged::Fault(at);
     }
     let sheet = Sheet::new(n as u16, two_at(s, at));
-    judge_records(s, at + 2, sheet)
+    judge_records(s, at + TWO_BYTES, sheet)
 }
 
 // n numbers behind the head, and what follows them.

@@ -20,8 +20,8 @@ use Rattle.index_counts.proofs.Filled.{Fit, Fillable, fill-next}
 use Rattle.sheet.specs.Bytes.{fromBytes}
 use Rattle.sheet.specs.Sheet.{placeBytes}
 use Rattle.sheet.specs.Reading.{recordSize, kitIn}
-use Rattle.sheet_judge.specs.Inner.{recordAt, recordEnd, listAt, WholeAt}
-use Rattle.sheet_judge.proofs.Records.{size-at, end-whole, tag-is, row-is}
+use Rattle.sheet.specs.Inner.{recordAt, recordEnd, listAt, WholeAt}
+use Rattle.sheet.proofs.Places.{size-at, end-whole, tag-is, row-is}
 use Rattle.sheet_read.specs.Inner.{kitsRead, endRead, KitsStand}
 use Rattle.sheet_read.proofs.Listed.{kits-fillable, inserting-enters}
 

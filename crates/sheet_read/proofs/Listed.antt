@@ -7,7 +7,7 @@ use native.Mathlib.Omega.{arith}
 use lib.ListN.{length, length-replicate}
 use lib.Dec.{eqb}
 use borrow.Author.Tests.{leb-true, ltb-true, le-leb, lt-ltb, le-ltb, ne-eqb, not-true}
-use Rattle.ground.specs.Limits.{mostParts}
+use Rattle.ground.specs.Limits.{mostParts, twoLimit}
 use Rattle.ground.specs.Lists.{allb, anyb, every, distinct, eqList}
 use Rattle.ground.specs.Laid.{zeroed}
 use Rattle.ground.specs.Calls.{answer, decide, memory}
@@ -30,7 +30,6 @@ use Rattle.index.specs.Index.{entryRefusals}
 use Rattle.index.specs.Inner.{insertingRow}
 use Rattle.index.proofs.Kept.{Accepted}
 use Rattle.index_counts.proofs.Filled.{Fit, Apart, Fillable, acceptable, fill-next}
-use Rattle.sheet.specs.Bytes.{twoLimit}
 use Rattle.sheet.specs.Sheet.{Contents}
 use Rattle.sheet.specs.Inner.{goodKit, rising, fitsSheet}
 use Rattle.sheet.proofs.Fresh.{any-none}

@@ -6,7 +6,7 @@ use mathlib.Core.Bool.{Bool, true, false, not}
 use mathlib.Core.List.{List, [], _∷_, _++_, map, append-assoc, append-nil}
 use Prim.Native.Nat.{ℕ, suc, _+_, _*_, _≤_, _<_}
 use native.Mathlib.Omega.{arith}
-use lib.ListN.{length, take, drop, replicate, length-append}
+use lib.ListN.{length-replicate, length, take, drop, replicate, length-append}
 use lib.Seq.{drop-drop, take-at, drop-at}
 use borrow.Author.Tests.{not-true}
 use Rattle.ground.specs.Lists.{allb, anyb, distinct, concat, eqList, from}
@@ -25,7 +25,7 @@ use Rattle.register.proofs.Entered.{length-slotOf, number-of-slot, slot-of-good
 use Rattle.register.proofs.Answers.{registering-done}
 use Rattle.nodes.proofs.Lists.{same-or}
 use Rattle.nodes.proofs.Sorted.{allb-mem}
-use Rattle.sheet_read.proofs.Slots.{Shorts, register-none, register-size, rest-free, register-more}
+use Rattle.sheet_read.proofs.Slots.{Shorts, slots-long, register-none, register-size, rest-free, register-more}
 
 good-short : (ps : List (List ℕ)) → allb goodNumber ps ≡ true → Shorts ps
 good-short ps g p m = number-short p (allb-mem goodNumber ps p g m)
@@ -77,7 +77,8 @@ module _ (m : ℕ) (ps : List (List ℕ)) (good : allb goodNumber ps ≡ true) (
   unfolding registerOf
   stands =
       stand (registerOf m ps) 0 ps (drop (length (concat (map slotOf ps))) (replicate (m * slotBytes) 0)) good
-      (laid-front (replicate (m * slotBytes) 0) (concat (map slotOf ps)))
+      (laid-front (replicate (m * slotBytes) 0) (concat (map slotOf ps))
+      (simp length-replicate (omega (arith, slots-long ps (good-short ps good)))))
 
   register-holds : Holds (registerOf m ps) (length ps)
   register-holds = record {

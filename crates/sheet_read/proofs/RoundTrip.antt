@@ -6,6 +6,7 @@ use Prim.Native.Nat.{ℕ, _≤_, _<_}
 use native.Mathlib.Omega.{arith}
 use lib.ListN.{length, getD, length-map}
 use borrow.Author.Tests.{le-ltb}
+use Rattle.ground.specs.Limits.{twoLimit}
 use Rattle.ground.specs.Lists.{allb, distinct, eqList, keep, from}
 use Rattle.ground.specs.Laid.{laid}
 use Rattle.ground.specs.Calls.{done, answer, decide, memory}
@@ -23,7 +24,7 @@ use Rattle.nodes.proofs.Lists.{kept-and-not}
 use Rattle.nodes.proofs.Sorted.{rising-weaken, no-longer, from-mem, mem-allb}
 use Rattle.nodes.proofs.Listing.{earlier-other, order-mem}
 use Rattle.nodes.proofs.Held.{held-rises, held-holds, held-good, held-tagged, held-tags-differ}
-use Rattle.sheet.specs.Bytes.{twoLimit, Bytes}
+use Rattle.sheet.specs.Bytes.{Bytes}
 use Rattle.sheet.specs.Sheet.{Contents, contentsOf, encode}
 use Rattle.sheet.specs.Inner.{goodKit, fitsSheet}
 use Rattle.sheet.specs.Reading.{decode, isFault, said}

@@ -27,7 +27,8 @@ use Rattle.sheet.specs.Calls.{sheetRefusals, roomRefusals}
 use Rattle.sheet.specs.declared.Sheet.{Sheet}
 use Rattle.sheet.proofs.Written.{kit-back, record-size}
 use Rattle.sheet.proofs.Laws.{encode-decode}
-use Rattle.sheet_judge.specs.Inner.{judgedOf, sheetOf, numbersAt, endAt, recordAt}
+use Rattle.sheet.specs.Inner.{numbersAt, endAt, recordAt}
+use Rattle.sheet_judge.specs.Inner.{judgedOf, sheetOf}
 use Rattle.sheet_judge.specs.declared.Judged.the-variants.{Fault, Good}
 use Rattle.ground.specs.Tables.{Tables, tables}
 use Rattle.sheet_read.specs.Filling.{filling}

@@ -19,8 +19,8 @@ use Rattle.register.proofs.Entered.{length-slotOf, slot-written}
 use Rattle.register.proofs.Sound.{whole}
 use Rattle.sheet.specs.Sheet.{numberItem}
 use Rattle.sheet.specs.Inner.{headBytes}
-use Rattle.sheet_judge.specs.Inner.{numberHere, nextPlace, numbersAt, endAt}
-use Rattle.sheet_judge.proofs.Numbers.{end-last, numbers-at-last, numbers-many}
+use Rattle.sheet.specs.Inner.{numberHere, nextPlace, numbersAt, endAt}
+use Rattle.sheet.proofs.Places.{end-last, numbers-at-last, numbers-many}
 use Rattle.sheet_read.specs.Inner.{NumberStands, NumbersStand}
 
 -- numbers that slots have room for
@@ -36,7 +36,7 @@ unfolding concat
 slots-append [] b = refl
 slots-append (x ∷ a) b = rw append-assoc (ap (λ (y : List ℕ). slotOf x ++ y) (slots-append a b))
 
-slots-long : (ps : List (List ℕ)) → Shorts ps → length (concat (map slotOf ps)) ≡ length ps * slotBytes
+pub slots-long : (ps : List (List ℕ)) → Shorts ps → length (concat (map slotOf ps)) ≡ length ps * slotBytes
 unfolding concat
 slots-long [] f = refl
 slots-long (p ∷ ps) f =
@@ -61,7 +61,7 @@ module _ (m : ℕ) where
 
     pub register-size : length (registerOf m ps) ≡ m * slotBytes
     unfolding registerOf
-    register-size = length-laid (replicate (m * slotBytes) 0) 0 X inside ∙ length-replicate (m * slotBytes) 0
+    register-size = length-laid (replicate (m * slotBytes) 0) 0 X ∙ length-replicate (m * slotBytes) 0
 
     -- what lies behind the slots is free
     pub rest-free : allb isZero (drop (length ps * slotBytes) (registerOf m ps)) ≡ true
@@ -82,24 +82,24 @@ module _ (m : ℕ) where
     unfolding registerOf
     register-more p h =
         let e : 0 + length X ≡ length ps * slotBytes = omega (arith, slots-long ps f) in
-        let l = laid-laid (replicate (m * slotBytes) 0) 0 X (slotOf p) inside in
+        let l = laid-laid (replicate (m * slotBytes) 0) 0 X (slotOf p) in
         rw (← e, l, slots-append ps (p ∷ []), slots-one p)
 
 -- a number written with its length into a slot that is free
 pub number-set : (R p : List ℕ) (k : ℕ) → k < slotCount R → length p ≤ longestNumber → allb isZero (slotAt R k) ≡ true →
     laid R (k * slotBytes) (numberItem p) ≡ laid R (k * slotBytes) (slotOf p)
 unfolding numberItem
-number-set R p k h l z = sym (laid-cons R (k * slotBytes) (length p) p (omega arith)) ∙ slot-written R p k h l z
+number-set R p k h l z = sym (laid-cons R (k * slotBytes) (length p) p) ∙ slot-written R p k h l z
 
 -- a number and its length, as they stand in the sheet and are lent
 module _ {s : List ℕ} {at k : ℕ} {R : List ℕ} (S : NumberStands s at k R) where
   pub number-long : length (numberHere s at) ≡ getD s at 0
   number-long = length-take-le (getD s at 0) (drop (at + 1) s) (omega (arith, length-drop (at + 1) s, S .inside))
 
-  pub number-lent : (n : ℕ) → n ≡ getD s at 0 → take (at + 1 + n - at) (drop at s) ≡ numberItem (numberHere s at)
+  pub number-lent : (n : ℕ) → n ≡ 1 + getD s at 0 → take (at + n - at) (drop at s) ≡ numberItem (numberHere s at)
   unfolding numberItem
   number-lent n e =
-      let f : at + 1 + n - at ≡ suc (getD s at 0) = omega arith in
+      let f : at + n - at ≡ suc (getD s at 0) = omega arith in
       let d : drop at s ≡ getD s at 0 ∷ drop (at + 1) s = drop-cons s at 0 (omega (arith, S .inside)) ∙ rw (add-one at) refl in
       rw (f, d, number-long)
 

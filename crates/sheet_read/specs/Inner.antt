@@ -16,10 +16,9 @@ use Rattle.register.specs.Register.{slotCount, registerLength}
 use Rattle.nodes.specs.Nodes.{size, nodesLength}
 use Rattle.nodes.specs.Held.{Kit, tagsOf, allBeginnings}
 use Rattle.sheet.specs.Sheet.{placeBytes}
-use Rattle.sheet.specs.Inner.{goodKit, rising, headBytes}
+use Rattle.sheet.specs.Inner.{goodKit, rising, headBytes, nextPlace, endAt, recordAt}
 use Rattle.sheet.specs.Reading.{decode, said, recordSize, kitIn}
 use Rattle.sheet.specs.Calls.{sheetRefusals}
-use Rattle.sheet_judge.specs.Inner.{nextPlace, endAt, recordAt}
 use Rattle.ground.specs.Tables.{Tables}
 use Rattle.sheet_read.specs.Filling.{filling}
 

@@ -8,16 +8,16 @@ ghost use Rattle.register.specs.Register.{slotBytes, slotCount, registerLength,
 ghost use Rattle.nodes.specs.Nodes.{nodesLength};
 ghost use Rattle.index_insert.specs.Enter.{enterAll};
 ghost use Rattle.sheet.specs.Sheet.{numberItem};
-ghost use Rattle.sheet.specs.Inner.{headBytes};
+ghost use Rattle.sheet.specs.Bytes.{twoBytes};
+ghost use Rattle.sheet.specs.Inner.{headBytes, numberHere, nextPlace, numbersAt, endAt};
 ghost use Rattle.sheet.specs.Reading.{decode};
-ghost use Rattle.sheet_judge.specs.Inner.{judgedOf, numberHere, nextPlace, numbersAt, endAt};
+ghost use Rattle.sheet_judge.specs.Inner.{judgedOf};
 ghost use Rattle.sheet_judge.specs.declared.Judged.the-variants.{Good};
 ghost use Rattle.ground.specs.Tables.{tables};
 ghost use Rattle.sheet_read.specs.Inner.{ReadPromise, kitsRead, NumberStands, NumbersStand, KitsStand};
 use answers::Answer;
 use ground::clear;
 use ground::copy_in;
-use ground::wide8;
 use ground::wide16;
 use index::insert;
 use nodes::clear_nodes;
@@ -25,18 +25,20 @@ use nodes::node_count;
 use register::SLOT_BYTES;
 use register::count_slots;
 use sheet::Sheet;
+use sheet::TWO_BYTES;
+use sheet::item_size;
+use sheet::record_end;
+use sheet::row_in;
+use sheet::two_at;
 use sheet_judge::Judged;
 use sheet_judge::judge;
-use sheet_judge::record_end;
-use sheet_judge::row_in;
-use sheet_judge::two_at;
 
 // Sets the number that stands at a place of the sheet, with its length, into slot k: where it ends.
 fn enter_number(reg: &mut [u8], s: &[u8], at: usize, k: usize) -> usize
     requires { ⌜ NumberStands (now s) at k (now reg) ⌝ }
     ensures { λ r. ⌜ r ≡ nextPlace (now (s .entry)) at ⌝ ∗ ⌜ now (reg .exit) ≡ laid (now (reg .entry)) (k * slotBytes) (numberItem (numberHere (now (s .entry)) at)) ⌝ }
 {
-    let end = at + 1 + wide8(s[at]);
+    let end = at + item_size(s, at);
     copy_in(reg, k * SLOT_BYTES, &s[at..end]);
     end
 }
@@ -73,12 +75,12 @@ fn fill_nodes(nodes: &mut [u16], s: &[u8], from: usize, m: usize)
 
 // Empties both tables and fills them with n parts and m kits of a sheet.
 pub fn fill(reg: &mut [u8], nodes: &mut [u16], s: &[u8], n: usize, m: usize)
-    requires { ⌜ NumbersStand (now s) n (now reg) ⌝ ∗ ⌜ KitsStand (now s) (endAt (now s) headBytes n + 2) m (now nodes) ⌝ }
+    requires { ⌜ NumbersStand (now s) n (now reg) ⌝ ∗ ⌜ KitsStand (now s) (endAt (now s) headBytes n + twoBytes) m (now nodes) ⌝ }
     ensures { λ _. ⌜ (now (reg .exit) ≡ registerOf (slotCount (now (reg .entry))) (numbersAt (now (s .entry)) headBytes n)) ×
-        (now (nodes .exit) ≡ enterAll (zeroed (now (nodes .entry))) (kitsRead (now (s .entry)) (endAt (now (s .entry)) headBytes n + 2) m)) ⌝ }
+        (now (nodes .exit) ≡ enterAll (zeroed (now (nodes .entry))) (kitsRead (now (s .entry)) (endAt (now (s .entry)) headBytes n + twoBytes) m)) ⌝ }
 {
     let at = fill_register(reg, s, n);
-    fill_nodes(nodes, s, at + 2, m);
+    fill_nodes(nodes, s, at + TWO_BYTES, m);
 }
 
 // A faultless sheet: 12, or both tables filled.

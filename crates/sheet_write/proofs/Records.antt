@@ -1,24 +1,19 @@
 -- Laws of the records of nodes, of the lines of a row, of the numbers in slots, and of a row read up the parent links.
 use mathlib.Core.Path.{_≡_, refl, ap, sym, _∙_}
-use mathlib.Core.Bool.{Bool, true, false, cond}
 use mathlib.Core.List.{List, [], _∷_, _++_, map, append-assoc, append-nil}
 use Prim.Native.Nat.{ℕ, suc, _+_, _-_, _*_, _/_, _≤_, _<_}
 use native.Mathlib.Omega.{arith}
-use lib.ListN.{length, drop, set, getD, length-append, length-set, length-drop}
-use lib.Dec.{eqb}
+use lib.ListN.{length, drop, set, length-append, length-set}
 use lib.Seq.{drop-set-lt, drop-cons, getD-set-same}
 use borrow.Author.Tests.{eq-eqb, ne-eqb}
 use Rattle.ground.specs.Lists.{keep, from, concat}
 use Rattle.ground.specs.Laid.{laid}
 use Rattle.ground.proofs.Laws.{from-step, from-end, map-append, empty-list}
 use Rattle.ground.proofs.Laid.{laid-front}
-use Rattle.kits.specs.Kits.{mostUnits, mostPlace, linesFrom, listOf}
-use Rattle.kits.specs.Inner.{GoodRow, lineAt, unitsIn, fixedRow}
+use Rattle.kits.specs.Kits.{mostUnits, mostPlace, listOf}
+use Rattle.kits.specs.Inner.{unitsIn, fixedRow}
 use Rattle.kits.specs.declared.Row.{Row}
-use Rattle.kits.specs.declared.Line.{Line}
-use Rattle.kits.proofs.Rows.{lines-from, line-next, no-lines, run-short, row-back}
-use Rattle.kits.proofs.Good.{good-lines}
-use Rattle.kits.proofs.Units.{row-list-good}
+use Rattle.kits.proofs.Rows.{row-back}
 use Rattle.register.specs.Register.{numberAt}
 use Rattle.nodes.specs.Nodes.{tag, child, next, parent, label, depth, tagged, size}
 use Rattle.nodes.specs.Inner.{Shape, Used, Live, walk, walkAll}
@@ -26,11 +21,10 @@ use Rattle.nodes.specs.Held.{Kit, kitAt}
 use Rattle.nodes.proofs.Sorted.{keep-append}
 use Rattle.nodes.proofs.Walk.{walk-none, walk-some}
 use Rattle.nodes.proofs.Rows.{climb, row-step, row-length, deep-used, parent-live, row-good, live-inside}
-use Rattle.sheet.specs.Bytes.{inBytes, two}
-use Rattle.sheet.specs.Sheet.{placeBytes, numberItem, numberItems, lineItems, recordItem, recordItems}
-use Rattle.sheet.proofs.Written.{items-length}
-use Rattle.sheet_write.proofs.Down.{Going, down-at, down-byte, going-of}
-use Rattle.sheet_write.specs.Inner.{SetDown, kitOf, nodeRow, numbersFrom, kitsAt, recordsAt, ownRecord, recordsFrom}
+use Rattle.sheet.specs.Sheet.{placeBytes, lineBytes, lineWords, linesAt, numberItem, numberItems, recordItem, recordItems}
+use Rattle.sheet.specs.Inner.{kitOf}
+use Rattle.sheet.proofs.Lines.{record-size}
+use Rattle.sheet_write.specs.Inner.{nodeRow, numbersFrom, kitsAt, recordsAt, ownRecord, recordsFrom}
 
 -- records one behind the other
 records-both : (w : ℕ) (a b : List Kit) → recordItems w (a ++ b) ≡ recordItems w a ++ recordItems w b
@@ -98,58 +92,14 @@ pub number-size : (n : List ℕ) → length (numberItem n) ≡ 1 + length n
 unfolding numberItem
 number-size n = omega arith
 
--- the lines of a row, one after the other
-module _ (us : List ℕ) (at : ℕ) (r : Line) (h : at < length us) (e : r ≡ lineAt us at) where
-  pub lines-step : lineItems placeBytes (listOf (drop at us)) ≡ (inBytes placeBytes (r .place) ++ (r .quantity ∷ [])) ++ lineItems placeBytes (listOf (drop (r .next) us))
-  unfolding lineItems inBytes
-  lines-step = rw (e, lines-from us at h)
-
-  pub line-small : length us ≤ mostUnits → r .quantity < 256
-  unfolding lineAt
-  line-small k = rw e (omega (arith, run-short (getD us at 0) (drop at us), length-drop at us))
-
-  pub line-on : at < r .next
-  line-on = rw e (line-next us at h)
-
-pub lines-end : (us : List ℕ) (at : ℕ) → length us ≤ at → lineItems placeBytes (listOf (drop at us)) ≡ []
-unfolding lineItems
-lines-end us at h = rw (no-lines us at h)
-
-few-from : (p q : ℕ) (us : List ℕ) → length (linesFrom p q us) ≤ 2 + 2 * length us
-unfolding linesFrom
-few-from p q [] = omega arith
-few-from p q (x ∷ us) = go (eqb x p) (few-from p (suc q) us) (few-from x 1 us)
-  where
-    go : (t : Bool) → length (linesFrom p (suc q) us) ≤ 2 + 2 * length us → length (linesFrom x 1 us) ≤ 2 + 2 * length us →
-        length (cond t (linesFrom p (suc q) us) (p ∷ q ∷ linesFrom x 1 us)) ≤ 2 + 2 * suc (length us)
-    go true a b = omega arith
-    go false a b = omega arith
-
--- a row of at most 64 units has at most 64 lines
-pub lines-few : (us : List ℕ) → length (listOf us) ≤ 2 * length us
-unfolding listOf
-lines-few [] = omega arith
-lines-few (x ∷ us) = omega (arith, few-from x 1 us)
-
-pub record-size : (r : List ℕ) (t : ℕ) → GoodRow mostPlace r → length (recordItem placeBytes (kitOf r t)) ≡ 3 + length (listOf r) / 2 * 2
-unfolding recordItem inBytes
-record-size r t g = omega (arith, items-length (good-lines mostPlace (listOf r) (row-list-good mostPlace r g)) placeBytes)
-
 -- A row read up the parent links: `places` has what is behind the row of node j, which is still to come
 pub lay-last : (l rest : List ℕ) (x at : ℕ) → length rest ≡ at → at < length l → laid (set l at x) 0 rest ≡ laid l 0 (rest ++ (x ∷ []))
 lay-last l rest x at e h =
     let d : drop at (set l at x) ≡ x ∷ drop (suc at) l = drop-cons (set l at x) at 0 (rw length-set h) ∙ rw
     (getD-set-same l at x 0 h, drop-set-lt (suc at) l at x (omega arith)) refl in
     let n : length (rest ++ (x ∷ [])) ≡ suc at = length-append rest (x ∷ []) ∙ (omega arith) in
-    laid-front (set l at x) rest ∙ rw (e, d) (sym (laid-front l (rest ++ (x ∷ [])) ∙ rw (n, append-assoc) refl))
-
--- the tag and the line count are set down, and the lines are to come
-pub kit-going : {l m : List ℕ} {r : ℕ} (us : List ℕ) (t n : ℕ) → SetDown l m (two t) r → n ≡ length (listOf us) / 2 →
-    length (recordItem placeBytes (kitOf us t)) ≤ length l →
-    Going l (set m 2 n) 3 (lineItems placeBytes (listOf us)) (recordItem placeBytes (kitOf us t))
-unfolding recordItem inBytes
-kit-going {l} us t n d e h =
-    rw e (going-of (lineItems placeBytes (listOf us)) (down-byte (length (listOf us) / 2) (down-at d (d .ends)) (omega arith)) refl h)
+    laid-front (set l at x) rest (rw length-set (omega arith)) ∙ rw (e, d)
+    (sym (laid-front l (rest ++ (x ∷ [])) (omega arith) ∙ rw (n, append-assoc) refl))
 
 module _ (N : List ℕ) (S : Shape mostPlace N) (i : ℕ) (u : Live N i) where
   pub node-short : length (nodeRow N i) ≤ mostUnits
@@ -170,11 +120,11 @@ module _ (N : List ℕ) (S : Shape mostPlace N) (i : ℕ) (u : Live N i) where
 
   -- its own record, of the row that was read
   pub own-length : (r : Row) (t : ℕ) → t ≡ tag N i → (t ≡ 0 → ⊥) → r ≡ fixedRow (nodeRow N i) →
-      (length (ownRecord N i) ≡ 3 + length (listOf (unitsIn r)) / 2 * 2) × (length (listOf (unitsIn r)) / 2 ≤ 64)
+      length (ownRecord N i) ≡ linesAt + length (listOf (unitsIn r)) / lineWords * lineBytes placeBytes
   own-length r t e f g =
       let b : unitsIn r ≡ nodeRow N i = rw g (row-back (nodeRow N i)) in
       let o = own-some N i (λ z. f (e ∙ z)) in
-      rw b (ap length o ∙ record-size (nodeRow N i) (tag N i) (row-good S i u), omega (arith, lines-few (nodeRow N i), node-short))
+      rw b (ap length o ∙ record-size (nodeRow N i) (tag N i) (row-good S i u))
 
   pub up-deep : 0 < depth N i → depth N i ≡ depth N (parent N i) + 1
   up-deep h = S .good i (deep-used (climb S) i u h) .deeper

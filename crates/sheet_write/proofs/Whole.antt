@@ -5,6 +5,7 @@ use mathlib.Core.List.{List, [], _∷_, _++_, map, append-assoc}
 use Prim.Native.Nat.{ℕ, _+_, _≤_, _<_}
 use native.Mathlib.Omega.{arith}
 use lib.ListN.{length, length-append}
+use Rattle.ground.specs.Laid.{Put}
 use Rattle.ground.specs.Lists.{keep, concat}
 use Rattle.ground.specs.Calls.{done, refused, Promise}
 use Rattle.ground.proofs.Calls.{set-down-full, set-down-done}
@@ -20,7 +21,7 @@ use Rattle.sheet.specs.Bytes.{two}
 use Rattle.sheet.specs.Sheet.{Contents, contentsOf, mark, version, placeBytes, numberItems, recordItem, recordItems, encode}
 use Rattle.sheet.specs.Calls.{writingOf}
 use Rattle.sheet.proofs.Numbers.{two-length}
-use Rattle.sheet_write.specs.Inner.{SetDown, headItems, numbersFrom, kitsAt, recordsAt}
+use Rattle.sheet_write.specs.Inner.{headItems, numbersFrom, kitsAt, recordsAt}
 
 -- putting kits in order changes neither their number nor their bytes
 bytes-of : (w : ℕ) (k : Kit) (ks : List Kit) → length (recordItems w (k ∷ ks)) ≡ length (recordItem w k) + length (recordItems w ks)
@@ -113,6 +114,6 @@ module _ (c : Contents) (o : List ℕ) (n : ℕ) (need : n ≡ length (encode c)
   unfolding writingOf
   writing-12 h = rw need (set-down-full (encode c) o (omega (arith, need)))
 
-  pub writing-done : (m : List ℕ) (r : ℕ) → n ≤ length o → SetDown o m (encode c) r → Promise (writingOf c o) o (done r) m
+  pub writing-done : (m : List ℕ) (r : ℕ) → n ≤ length o → Put o 0 (encode c) r m → Promise (writingOf c o) o (done r) m
   unfolding writingOf
-  writing-done m r h d = rw (d .ends, d .is) (set-down-done (encode c) o (omega (arith, need)))
+  writing-done m r h d = let e : r ≡ length (encode c) = omega (arith, d .behind) in rw (e, d .lies) (set-down-done (encode c) o (omega (arith, need)))

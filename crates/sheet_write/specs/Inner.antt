@@ -1,12 +1,10 @@
 -- Inner: no promise of the house rests on what stands here; inner contracts and proofs speak by it.
--- What each of the writer's functions sets down, and the paper's number and value of the writer's answers.
+-- What each of the writer's functions sets down.
 use mathlib.Core.Path.{_≡_}
 use mathlib.Core.List.{List, [], _∷_, _++_, map}
 use Prim.Native.Nat.{ℕ}
 use lib.ListN.{length}
 use Rattle.ground.specs.Lists.{keep, from}
-use Rattle.ground.specs.Laid.{laid}
-use Rattle.ground.specs.Calls.{Reply, done, refused}
 use Rattle.register.specs.Register.{numberAt, partsOf}
 use Rattle.nodes.specs.Nodes.{tagged}
 use Rattle.nodes.specs.Nodes as table
@@ -15,14 +13,6 @@ use Rattle.nodes.specs.Held.{Kit, kitAt, held}
 use Rattle.sheet.specs.Bytes.{two}
 use Rattle.sheet.specs.Sheet.{placeBytes, mark, version, numberItems, recordItems}
 use Rattle.sheet.specs.declared.Sheet.{Sheet}
-
--- bs was set down at the start of an output, and r says how many bytes that is
-pub record SetDown (before after bs : List ℕ) (r : ℕ) : Type 0 where
-  pub ends : r ≡ length bs
-  pub is : after ≡ laid before 0 bs
-
-abbrev pub kitOf : List ℕ → ℕ → Kit
-kitOf r t = record { row = r; tag = t }
 
 -- the label row of node i
 abbrev pub nodeRow : List ℕ → ℕ → List ℕ

@@ -21,11 +21,10 @@ use Rattle.nodes.proofs.Sorted.{map-same}
 use Rattle.nodes.proofs.Held.{held-good}
 use Rattle.questions.specs.Questions.{fitting, allOf}
 use Rattle.questions.specs.Inner.{foundIn}
-use Rattle.questions.proofs.Written.{wrote-laid}
 use Rattle.questions.proofs.Found.{found-few, kits-found, tags-at}
 use Rattle.questions.proofs.Meaning.{fitting-exactly}
 use Rattle.shortfalls.specs.Shortfalls.{shortOf, isAlmost, almostTags, almostShorts, shortsOf}
-use Rattle.shortfalls.specs.Inner.{shortIn, almost, shortAt, WroteBoth, WroteNodes}
+use Rattle.shortfalls.specs.Inner.{shortIn, almost, shortAt, PutBoth, PutNodes}
 use Rattle.shortfalls.proofs.Along.{short-along}
 
 rowShort : List ℕ → Kit → ℕ
@@ -64,22 +63,20 @@ module _ (d : ℕ) {N Q : List ℕ} (l : List ℕ) (S : Shape mostPlace N) (g : 
 
 -- o and z are as they were lent, m and w as they are now; p′ and q′ are what else was written to count
 module _ {xs ys ts ss : List ℕ} (a : xs ≡ ts) (b : ys ≡ ss) (o z : List ℕ) {room : ℕ} (e : room ≡ min (length o) (length z))
-    {p p′ q q′ : List ℕ} {need : ℕ} (counted : WroteBoth p p′ q q′ 0 need ts ss) where
+    {p p′ q q′ : List ℕ} {need : ℕ} (counted : PutBoth p q 0 ts ss need p′ q′) where
   many : need ≡ length xs
-  many = omega (arith, counted .one .ends, ap length a)
+  many = omega (arith, counted .one .behind, ap length a)
 
   pub all-refused : {m w : List ℕ} → m ≡ o → w ≡ z → room < need →
       Promise (setBoth [] xs ys (both o z)) (both o z) (refused 12 need) (both m w)
   all-refused i j h = rw (many, i, j) (set-both-full xs ys (both o z) (omega (arith, many, e)))
 
-  pub all-done : {m w o′ z′ : List ℕ} {r : ℕ} → m ≡ o → w ≡ z → need ≤ room → WroteBoth m o′ w z′ 0 r ts ss →
+  pub all-done : {m w o′ z′ : List ℕ} {r : ℕ} → m ≡ o → w ≡ z → need ≤ room → PutBoth m w 0 ts ss r o′ z′ →
       Promise (setBoth [] xs ys (both o z)) (both o z) (done need) (both o′ z′)
   all-done i j h k =
-      let u = wrote-laid a i (omega (arith, many, e)) (k .one) in
-      let v = wrote-laid b j (omega (arith, many, e, ap length a, ap length b, k .one .ends, k .two .ends)) (k .two) in
-      rw (many, u, v) (set-both-done xs ys (both o z) (omega (arith, many, e)))
+      rw (many, k .one .lies, k .two .lies, ← a, ← b, i, j) (set-both-done xs ys (both o z) (omega (arith, many, e)))
 
 -- as many kits as there are nodes at most
 pub no-more-than-nodes : (Q : List ℕ) (d : ℕ) {N o o′ z z′ : List ℕ} {n r : ℕ} → Shape mostPlace N →
-    WroteNodes Q N o o′ z z′ 0 r (foundIn (almost Q d) N) → n ≡ size N → r ≤ n
-no-more-than-nodes Q d {N} S w e = omega (arith, w .one .ends, length-map (foundIn (almost Q d) N) (tag N), found-few S (almost Q d))
+    PutNodes Q N o z 0 (foundIn (almost Q d) N) r o′ z′ → n ≡ size N → r ≤ n
+no-more-than-nodes Q d {N} S w e = omega (arith, w .one .behind, length-map (foundIn (almost Q d) N) (tag N), found-few S (almost Q d))

@@ -1,6 +1,5 @@
 -- What is promised, in the request's words: which kits answer, when those are the kits within the bin, how they grow with d, and that the
--- two outputs
--- are in step.
+-- two outputs are in step.
 use mathlib.Core.Path.{_≡_, refl, sym}
 use mathlib.Core.Logic.{_↔_}
 use mathlib.Core.Bool.{true}

@@ -16,7 +16,7 @@ use Rattle.questions.specs.Inner.{answers, foundFrom, foundIn, ifTag, someTag}
 use Rattle.questions.proofs.Found.{own-word, found-none, found-step, found-root, found-few, found-past}
 use Rattle.shortfalls.specs.declared.Passed.{Passed}
 use Rattle.shortfalls.specs.Shortfalls.{mostShort}
-use Rattle.shortfalls.specs.Inner.{nonePassed, after, along, shortIn, almost, shortAt, WroteBoth, WroteNodes, AtLink}
+use Rattle.shortfalls.specs.Inner.{nonePassed, after, along, shortIn, almost, shortAt, PutBoth, PutNodes, AtLink}
 use Rattle.shortfalls.proofs.Along.{along-append, along-next, along-least}
 use Rattle.shortfalls.proofs.Written.{both-same, nodes-on, nodes-same}
 
@@ -132,10 +132,10 @@ module _ {N Q : List ℕ} {d at : ℕ} {p : Passed} {l t : ℕ} (v : Seen N Q d 
             )
 
         pub set-down : {o o₁ o₂ o₃ z z₁ z₂ z₃ : List ℕ} {n a b r : ℕ} →
-            WroteBoth o o₁ z z₁ n a (someTag u) (ifTag u (q .short)) →
-            WroteNodes Q N o₁ o₂ z₁ z₂ a b (foundFrom (almost Q d) N k) →
-            WroteNodes Q N o₂ o₃ z₂ z₃ b r (foundFrom (almost Q d) N m) →
-            WroteNodes Q N o o₃ z z₃ n r (foundFrom (almost Q d) N at)
+            PutBoth o z n (someTag u) (ifTag u (q .short)) a o₁ z₁ →
+            PutNodes Q N o₁ z₁ a (foundFrom (almost Q d) N k) b o₂ z₂ →
+            PutNodes Q N o₂ z₂ b (foundFrom (almost Q d) N m) r o₃ z₃ →
+            PutNodes Q N o z n (foundFrom (almost Q d) N at) r o₃ z₃
         set-down x y w =
             let below = foundFrom (almost Q d) N k in
             let behind = foundFrom (almost Q d) N m in
@@ -190,9 +190,9 @@ module _ {N : List ℕ} (Q : List ℕ) (d : ℕ) (S : Shape mostPlace N) (h : d 
         )
 
     pub root-set : {o o₁ o₂ z z₁ z₂ : List ℕ} {a r : ℕ} →
-        WroteBoth o o₁ z z₁ 0 a (someTag u) (ifTag u 0) →
-        WroteNodes Q N o₁ o₂ z₁ z₂ a r (foundFrom (almost Q d) N k) →
-        WroteNodes Q N o o₂ z z₂ 0 r (foundIn (almost Q d) N)
+        PutBoth o z 0 (someTag u) (ifTag u 0) a o₁ z₁ →
+        PutNodes Q N o₁ z₁ a (foundFrom (almost Q d) N k) r o₂ z₂ →
+        PutNodes Q N o z 0 (foundIn (almost Q d) N) r o₂ z₂
     root-set x y =
         nodes-same (tag N) (shortAt Q N) root-parts
         (nodes-on (tag N) (shortAt Q N) (keep (answers (almost Q d) N) (0 ∷ [])) (foundFrom (almost Q d) N k)

@@ -6,11 +6,12 @@ use mathlib.Core.List.{List, [], _∷_, map}
 use Prim.Native.Nat.{ℕ, _+_, _-_, _≤_, _<_}
 use lib.Dec.{leb, ltb, eqb}
 use lib.ListN.{getD}
+use Rattle.ground.specs.Laid.{Put}
 use Rattle.kits.specs.Kits.{mostPlace}
 use Rattle.kits.specs.Inner.{quantity}
 use Rattle.nodes.specs.Nodes.{parent, tag, rowOf}
 use Rattle.nodes.specs.Inner.{Live, Shape}
-use Rattle.questions.specs.Inner.{foundFrom, foundIn, Wrote}
+use Rattle.questions.specs.Inner.{foundFrom, foundIn}
 use Rattle.shortfalls.specs.Shortfalls.{mostShort}
 use Rattle.shortfalls.specs.declared.Passed.{Passed}
 
@@ -61,25 +62,24 @@ shortAt Q N i = shortIn Q (rowOf N i)
 ------------------------------------------------------------------------
 -- The walk
 
--- Words set down in two outputs in step, from n on, as far as each has room; r is the place behind them
-pub record WroteBoth (o o′ p p′ : List ℕ) (n r : ℕ) (ts ss : List ℕ) : Type 0 where
-  pub one : Wrote o o′ n r ts
-  pub two : Wrote p p′ n r ss
+-- Words set down in two outputs in step
+pub record PutBoth (o p : List ℕ) (n : ℕ) (ts ss : List ℕ) (r : ℕ) (o′ p′ : List ℕ) : Type 0 where
+  pub one : Put o n ts r o′
+  pub two : Put p n ss r p′
 
 -- The tags and shortfalls of some nodes set down
-abbrev pub WroteNodes : List ℕ → List ℕ → List ℕ → List ℕ → List ℕ → List ℕ → ℕ → ℕ → List ℕ → Type 0
-WroteNodes Q N o o′ p p′ n r is = WroteBoth o o′ p p′ n r (map (tag N) is) (map (shortAt Q N) is)
+abbrev pub PutNodes : List ℕ → List ℕ → List ℕ → List ℕ → ℕ → List ℕ → ℕ → List ℕ → List ℕ → Type 0
+PutNodes Q N o p n is r o′ p′ = PutBoth o p n (map (tag N) is) (map (shortAt Q N) is) r o′ p′
 
 -- Those found on the chain that starts at a link and below it, from n on; and those of the whole table
-abbrev pub WroteFrom : List ℕ → ℕ → List ℕ → ℕ → List ℕ → List ℕ → List ℕ → List ℕ → ℕ → ℕ → Type 0
-WroteFrom Q d N at o o′ p p′ n r = WroteNodes Q N o o′ p p′ n r (foundFrom (almost Q d) N at)
+abbrev pub PutFrom : List ℕ → ℕ → List ℕ → ℕ → List ℕ → List ℕ → ℕ → ℕ → List ℕ → List ℕ → Type 0
+PutFrom Q d N at o p n r o′ p′ = PutNodes Q N o p n (foundFrom (almost Q d) N at) r o′ p′
 
-abbrev pub WroteIn : List ℕ → ℕ → List ℕ → List ℕ → List ℕ → List ℕ → List ℕ → ℕ → Type 0
-WroteIn Q d N o o′ p p′ r = WroteNodes Q N o o′ p p′ 0 r (foundIn (almost Q d) N)
+abbrev pub PutIn : List ℕ → ℕ → List ℕ → List ℕ → List ℕ → ℕ → List ℕ → List ℕ → Type 0
+PutIn Q d N o p r o′ p′ = PutNodes Q N o p 0 (foundIn (almost Q d) N) r o′ p′
 
 -- What the walk knows at a link: what the row of the node above has made of the labels, and that its shortfall is at most d. So no link is
--- followed
--- from a node whose row has a greater one.
+-- followed from a node whose row has a greater one.
 pub record AtLink (N Q : List ℕ) (d at : ℕ) (p : Passed) : Type 0 where
   pub shape : Shape mostPlace N
   pub live : Live N at

@@ -12,7 +12,7 @@ ghost use Rattle.nodes.specs.Nodes.{mostNodes};
 ghost use Rattle.nodes.specs.Inner.{Shape, Sound};
 ghost use Rattle.questions.specs.Inner.{foundFrom, someTag, ifTag};
 ghost use Rattle.shortfalls.specs.Shortfalls.{mostShort, listAlmost};
-ghost use Rattle.shortfalls.specs.Inner.{leftOf, after, almost, WroteBoth, WroteFrom, WroteIn, AtLink};
+ghost use Rattle.shortfalls.specs.Inner.{leftOf, after, almost, PutBoth, PutFrom, PutIn, AtLink};
 use answers::Answer;
 use ground::least;
 use kits::MOST_UNITS;
@@ -70,7 +70,7 @@ fn pass(bin: &[u16; PLACES], p: Passed, label: u16) -> Passed
 // Sets down a tag and a shortfall, each where there is room for it, unless the tag is 0; returns the place of the next.
 fn put_both(tags: &mut [u16], shorts: &mut [u16], n: usize, t: u16, s: u16) -> usize
     requires { ⌜ n + length (someTag t) ≤ mostNodes ⌝ }
-    ensures { λ r. ⌜ WroteBoth (now (tags .entry)) (now (tags .exit)) (now (shorts .entry)) (now (shorts .exit)) n r (someTag t) (ifTag t s) ⌝ }
+    ensures { λ r. ⌜ PutBoth (now (tags .entry)) (now (shorts .entry)) n (someTag t) (ifTag t s) r (now (tags .exit)) (now (shorts .exit)) ⌝ }
 {
     if t == 0 {
         return n;
@@ -93,7 +93,7 @@ fn list_almost(
     p: Passed,
 ) -> usize
     requires { ⌜ AtLink (now nodes) (now bin) d at p ⌝ ∗ ⌜ n + length (foundFrom (almost (now bin) d) (now nodes) at) ≤ mostNodes ⌝ }
-    ensures { λ r. ⌜ WroteFrom (now (bin .entry)) d (now (nodes .entry)) at (now (tags .entry)) (now (tags .exit)) (now (shorts .entry)) (now (shorts .exit)) n r ⌝ }
+    ensures { λ r. ⌜ PutFrom (now (bin .entry)) d (now (nodes .entry)) at (now (tags .entry)) (now (shorts .entry)) n r (now (tags .exit)) (now (shorts .exit)) ⌝ }
 {
     if at == 0 {
         return n;
@@ -117,7 +117,7 @@ fn set_almost(
     shorts: &mut [u16],
 ) -> usize
     requires { ⌜ (Shape mostPlace (now nodes)) × (d ≤ mostShort) ⌝ }
-    ensures { λ r. ⌜ WroteIn (now (bin .entry)) d (now (nodes .entry)) (now (tags .entry)) (now (tags .exit)) (now (shorts .entry)) (now (shorts .exit)) r ⌝ }
+    ensures { λ r. ⌜ PutIn (now (bin .entry)) d (now (nodes .entry)) (now (tags .entry)) (now (shorts .entry)) r (now (tags .exit)) (now (shorts .exit)) ⌝ }
 {
     let n = put_both(tags, shorts, 0, tag_at(nodes, 0), 0);
     let none = Passed {

@@ -11,11 +11,7 @@ answer-line-requires : tie.Need-answer-line-requires
 answer-line-requires c κs = search needs
 
 slice-reshare-prefix-write-all : tie.Need-slice-reshare-prefix-write-all
-slice-reshare-prefix-write-all c =
-    let at-answer-line : tie.After-answer-line = search in
-    reply-inside _ _ _ _ _
-    (at-answer-line .answer-line .ensures .0)
-    (at-answer-line .answer-line .kept .1 .1 .1 .1 .1 .0)
+slice-reshare-prefix-write-all c = search reply-inside
 
 slice-aggregate-write-all : tie.Need-slice-aggregate-write-all
 slice-aggregate-write-all c =

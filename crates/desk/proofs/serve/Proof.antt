@@ -103,7 +103,7 @@ same-length-7 : tie.Need-same-length-7 Inv-loop μ-loop
 same-length-7 c = search needs
 
 returns : tie.Need-returns Inv-loop μ-loop
-returns c = nothing-left (c .before .before .loop .inv .2) (c .if1 .taken)
+returns c = search nothing-left
 
 slice-reshare-prefix-reply-to : tie.Need-slice-reshare-prefix-reply-to Inv-loop μ-loop
 slice-reshare-prefix-reply-to c = c .before .before .loop .inv .0 .inside
@@ -140,11 +140,7 @@ same-length-14 : tie.Need-same-length-14 Inv-loop μ-loop
 same-length-14 c = search needs
 
 returns-2 : tie.Need-returns-2 Inv-loop μ-loop
-returns-2 c =
-    let at-reply-to : tie.After-reply-to Inv-loop μ-loop = search in
-    let else1 : tie.Else1 Inv-loop μ-loop = search in
-    let at-loop : tie.At-loop Inv-loop μ-loop = search in
-    line-left (at-loop .loop .inv .2) _ (else1 .if1 .left) (at-loop .loop .inv .0 .inside) (at-reply-to .reply-to .ensures .1)
+returns-2 c = search line-left
 
 pub serve-spec : {M : Type 1} → statement M
 serve-spec =

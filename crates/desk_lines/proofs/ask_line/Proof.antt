@@ -1,14 +1,12 @@
 -- A lookup refused is the answer and leaves the places; otherwise the words read are the list that is asked of.
-use Rattle.desk_lines.proofs.Outputs.{ask-lists, stop-leaves}
-use mathlib.Core.Path.{_≡_, sym, _∙_}
-use mathlib.Core.Bool.{false}
-use Rattle.ground.specs.Calls.{isRefused}
-use Rattle.answers.specs.Answers.{reply}
+use mathlib.Core.Path.{sym}
 use lib.Seq.{length-take-le}
 use Rattle.ground.specs.Tables.{tables}
+use Rattle.ground.specs.Calls.{numberOf, valueOf}
+use Rattle.answers.specs.Answers.{reply}
 use Rattle.desk_text.specs.Lines.{fieldsFrom}
-use Rattle.desk_lines.proofs.Good.{behind-letter}
-use Rattle.desk_lines.proofs.Answering.{ask-typed, ask-stopped, words-inside}
+use Rattle.desk_lines.proofs.Answering.{read-stopped, read-typed, read-inside}
+use Rattle.desk_lines.proofs.Outputs.{ask-typed, ask-stopped}
 use borrow.Author.Needs.{needs}
 use Rattle.desk_lines.proofs.ask_line.Statement.{statement}
 use Rattle.desk_lines.proofs.ask_line.Tie as tie
@@ -18,12 +16,6 @@ slice-aggregate-read-list c = search needs
 
 read-list-requires : tie.Need-read-list-requires
 read-list-requires c κs = search needs
-
--- the list was read
-read-done : (c : tie.Else1) →
-    let at-read-list : tie.After-read-list = search in
-    isRefused (reply (at-read-list .read-list .result)) ≡ false
-read-done c = sym (c .before .refused .ensures) ∙ c .if1 .left
 
 refused-requires : tie.Need-refused-requires
 refused-requires c κs = search needs
@@ -42,34 +34,22 @@ returns c =
     let at-read-list : tie.After-read-list = search in
     let start : tie.Start = search in
     let a = start .args in
-    let l = a .line .now in
-    let t = tables (a .reg .now) (a .nodes .now) in
-    let s = at-read-list .read-list .ensures .says in
-    let b = behind-letter l (start .pre .1 .0) in
-    let e = sym (at-refused .refused .ensures) ∙ then1 .if1 .taken in (
-      ask-stopped l t (reply (at-read-list .read-list .result)) _ (fieldsFrom l 2) s
-          (a .letter) (a .places .now) b e (at-put-answer .put-answer .ensures),
-      stop-leaves (a .letter) l (a .places .now) t
-          (reply (at-read-list .read-list .result)) _ (fieldsFrom l 2) s b e,
-    )
+    let b = reply (at-read-list .read-list .result) in
+    ask-stopped (a .letter) (a .tag) (fieldsFrom (a .line .now) (a .from)) (a .places .now) (tables (a .reg .now) (a .nodes .now))
+    (numberOf b) (valueOf b)
+    (read-stopped _ _ _ b _ (at-read-list .read-list .ensures) _ (at-refused .refused .ensures) (then1 .if1 .taken))
+    (at-put-answer .put-answer .ensures)
 
 reply-of-requires : tie.Need-reply-of-requires
 reply-of-requires c κs = search needs
 
 array-share-prefix-list : tie.Need-array-share-prefix-list
-array-share-prefix-list c =
-    let at-reply-of : tie.After-reply-of = search in
-    let else1 : tie.Else1 = search in
-    let at-read-list : tie.After-read-list = search in
-    words-inside _ _ _ (at-reply-of .reply-of .ensures .value) (read-done else1) (at-read-list .read-list .ensures .inside)
+array-share-prefix-list c = search read-inside
 
 slice-aggregate-ask : tie.Need-slice-aggregate-ask
 slice-aggregate-ask c =
     let at-reply-of : tie.After-reply-of = search in
-    let else1 : tie.Else1 = search in
-    let at-read-list : tie.After-read-list = search in
-    sym (length-take-le _ _
-    (words-inside _ _ _ (at-reply-of .reply-of .ensures .value) (read-done else1) (at-read-list .read-list .ensures .inside)))
+    sym (length-take-le _ _ (array-share-prefix-list at-reply-of))
 
 ask-requires : tie.Need-ask-requires
 ask-requires c κs = search needs
@@ -88,20 +68,14 @@ returns-2 c =
     let at-ask : tie.After-ask = search in
     let at-reply-of : tie.After-reply-of = search in
     let else1 : tie.Else1 = search in
+    let at-refused : tie.After-refused = search in
     let at-read-list : tie.After-read-list = search in
     let start : tie.Start = search in
     let a = start .args in
-    let l = a .line .now in
-    let t = tables (a .reg .now) (a .nodes .now) in
-    let s = at-read-list .read-list .ensures .says in
-    let b = behind-letter l (start .pre .1 .0) in
-    let v = at-reply-of .reply-of .ensures .value in
-    let e = read-done else1 in (
-      ask-typed l t (reply (at-read-list .read-list .result)) _ (fieldsFrom l 2) s (a .letter) (a .places .now) b _ _ v e
-          (at-ask .ask .ensures .0),
-      ask-lists (a .letter) l (a .places .now) t
-          (reply (at-read-list .read-list .result)) _ (fieldsFrom l 2) s b _ _ v e (at-ask .ask .ensures .1),
-    )
+    ask-typed (a .letter) (a .tag) (fieldsFrom (a .line .now) (a .from)) (a .places .now) (tables (a .reg .now) (a .nodes .now)) _ _ _
+    (read-typed _ _ _ _ _ (at-read-list .read-list .ensures) _ (at-refused .refused .ensures) (else1 .if1 .left) _
+    (at-reply-of .reply-of .ensures .value))
+    (at-ask .ask .ensures)
 
 pub ask-line-spec : {M : Type 1} → statement M
 ask-line-spec =

@@ -1,13 +1,8 @@
 -- The number and the value printed are those that the answer means in the paper.
-use Rattle.desk_replies.proofs.Replies.{put-same}
+use Rattle.desk_replies.proofs.Replies.{reply-same}
 use borrow.Author.Needs.{needs}
 use Rattle.desk_lines.proofs.put_answer.Statement.{statement}
 use Rattle.desk_lines.proofs.put_answer.Tie as tie
-use Rattle.desk_lines.proofs.put_answer.Reads as reads
-use Rattle.desk_lines.proofs.put_answer.Lts as lts
-use Rattle.desk_replies.proofs.put_reply.Reads as put-reply-reads
-use Rattle.ground.proofs.wide8.Reads as wide8-reads
-use Rattle.answers.proofs.reply_of.Reads as reply-of-reads
 
 reply-of-requires : tie.Need-reply-of-requires
 reply-of-requires c κs = search needs
@@ -22,7 +17,7 @@ same-length : tie.Need-same-length
 same-length c = search needs
 
 returns : tie.Need-returns
-returns c = put-same (c .before .before .put-reply .ensures) (cc)
+returns c = reply-same (c .before .before .put-reply .ensures) (cc)
 
 pub put-answer-spec : {M : Type 1} → statement M
 put-answer-spec =

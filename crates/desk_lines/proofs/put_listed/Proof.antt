@@ -6,11 +6,6 @@ use mathlib.Core.Path.{sym}
 use borrow.Author.Needs.{needs}
 use Rattle.desk_lines.proofs.put_listed.Statement.{statement}
 use Rattle.desk_lines.proofs.put_listed.Tie as tie
-use Rattle.desk_lines.proofs.put_listed.Reads as reads
-use Rattle.desk_lines.proofs.put_listed.Lts as lts
-use Rattle.desk_lines.proofs.put_answer.Reads as put-answer-reads
-use Rattle.desk_replies.proofs.put_listing.Reads as put-listing-reads
-use Rattle.answers.proofs.reply_of.Reads as reply-of-reads
 
 reply-of-requires : tie.Need-reply-of-requires
 reply-of-requires c κs = search needs

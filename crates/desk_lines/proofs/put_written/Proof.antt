@@ -7,11 +7,6 @@ use mathlib.Core.Path.{sym}
 use borrow.Author.Needs.{needs}
 use Rattle.desk_lines.proofs.put_written.Statement.{statement}
 use Rattle.desk_lines.proofs.put_written.Tie as tie
-use Rattle.desk_lines.proofs.put_written.Reads as reads
-use Rattle.desk_lines.proofs.put_written.Lts as lts
-use Rattle.desk_lines.proofs.put_answer.Reads as put-answer-reads
-use Rattle.desk_replies.proofs.put_sheet.Reads as put-sheet-reads
-use Rattle.answers.proofs.reply_of.Reads as reply-of-reads
 
 reply-of-requires : tie.Need-reply-of-requires
 reply-of-requires c κs = search needs

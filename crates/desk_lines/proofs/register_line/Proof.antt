@@ -1,29 +1,25 @@
--- A good P line has one field, its number, from 2 to the end; a ready register stays ready, whatever is entered.
-use Rattle.desk_lines.proofs.Answering.{ready-kept, register-put}
-use Rattle.desk_lines.proofs.Good.{number-there, number-typed}
-use Rattle.answers.specs.Answers.{reply}
-use Rattle.register.specs.Inner.{Ready}
-use Prim.Native.Nat.{ℕ}
-use mathlib.Core.List.{List}
+-- The one field from the position on is the rest of the line; a ready register stays ready, whatever is entered.
 use mathlib.Core.Path.{sym, subst}
+use mathlib.Core.List.{List}
+use Prim.Native.Nat.{ℕ}
+use Rattle.register.specs.Inner.{Ready}
+use Rattle.answers.specs.Answers.{reply}
+use Rattle.desk_text.specs.Lines.{fieldsFrom}
+use Rattle.desk_lines.proofs.Answering.{ready-kept, register-put}
+use Rattle.desk_lines.proofs.Good.{one-inside, one-field}
 use borrow.Author.Needs.{needs}
 use Rattle.desk_lines.proofs.register_line.Statement.{statement}
 use Rattle.desk_lines.proofs.register_line.Tie as tie
-use Rattle.desk_lines.proofs.register_line.Reads as reads
-use Rattle.desk_lines.proofs.register_line.Lts as lts
-use Rattle.register.proofs.register_in.Reads as register-in-reads
 
 sub-register-in : tie.Need-sub-register-in
 sub-register-in c =
     let start : tie.Start = search in
-    number-there _ (start .pre .0 .good)
-    (start .pre .0 .letter)
+    one-inside _ _ (start .pre .0)
 
 part-register-in-start : tie.Need-part-register-in-start
 part-register-in-start c =
     let start : tie.Start = search in
-    number-there _ (start .pre .0 .good)
-    (start .pre .0 .letter)
+    one-inside _ _ (start .pre .0)
 
 part-register-in-end : tie.Need-part-register-in-end
 part-register-in-end c = search needs
@@ -46,14 +42,10 @@ returns c =
     let at-register-in : tie.After-register-in = search in
     let start : tie.Start = search in
     let a = start .args in
-    let n = number-typed (a .line .now)
-    (start .pre .0 .good) (start .pre .0 .letter) in
     let p = at-register-in .register-in .ensures in (
-      register-put (a .line .now) (a .reg .now) (a .nodes .now) _
-          (reply (at-register-in .register-in .result)) _ (sym n) p (at-put-answer .put-answer .ensures),
-      subst (λ (m : List ℕ). Ready m) (sym (p .lent))
-          (ready-kept _ (a .reg .now)
-          (start .pre .1 .0)),
+      register-put (fieldsFrom (a .line .now) (a .from)) (a .reg .now) (a .nodes .now) _
+          (reply (at-register-in .register-in .result)) _ (sym (one-field _ _ (start .pre .0))) p (at-put-answer .put-answer .ensures),
+      subst (λ (m : List ℕ). Ready m) (sym (p .lent)) (ready-kept _ (a .reg .now) (start .pre .1 .0)),
     )
 
 pub register-line-spec : {M : Type 1} → statement M

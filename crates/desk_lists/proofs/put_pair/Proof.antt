@@ -25,7 +25,7 @@ same-length : tie.Need-same-length
 same-length c = search needs
 
 returns : tie.Need-returns
-returns c = two-set (c .args .list .now) (c .args .at) (c .args .place) (c .args .quantity) (c .pre)
+returns c = two-set (c .args .list .now) (c .args .at) (c .args .place) (c .args .quantity)
 
 pub put-pair-spec : {M : Type 1} → statement M
 put-pair-spec =

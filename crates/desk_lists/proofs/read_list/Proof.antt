@@ -20,9 +20,7 @@ abbrev μ-loop : tie.MeasureT-loop
 μ-loop line from reg list₀ n₀ at₀ list n at = length line + 1 - at
 
 loop-holds : tie.Need-loop-holds Inv-loop μ-loop
-loop-holds c =
-    let start : tie.Start Inv-loop μ-loop = search in
-    reading-start _ _ _ _ (start .pre .0) (start .pre .1 .1)
+loop-holds c = search reading-start
 
 end-of-requires : tie.Need-end-of-requires Inv-loop μ-loop
 end-of-requires c κs = omega arith
@@ -102,12 +100,7 @@ read-amount-requires : tie.Need-read-amount-requires Inv-loop μ-loop
 read-amount-requires c κs = search needs
 
 put-pair-requires : tie.Need-put-pair-requires Inv-loop μ-loop
-put-pair-requires c κs =
-    let at-end-of2 : tie.After-end-of2 Inv-loop μ-loop = search in
-    let at-end-of : tie.After-end-of Inv-loop μ-loop = search in
-    let in-loop : tie.In-loop Inv-loop μ-loop = search in
-    let at-loop : tie.At-loop Inv-loop μ-loop = search in
-    pair-room (at-loop .loop .inv) _ (in-loop .loop-test .taken) (at-end-of .end-of .ensures) _ (at-end-of2 .end-of2 .ensures)
+put-pair-requires c κs = search pair-room
 
 add-n : tie.Need-add-n Inv-loop μ-loop
 add-n c =

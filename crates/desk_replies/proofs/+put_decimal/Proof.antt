@@ -1,12 +1,13 @@
 -- A number of more digits is a tenth of it, which is less, and one digit behind; below 10 it is that digit.
 use mathlib.Core.Path.{_≡_, ap}
 use mathlib.Core.List.{[], _∷_, _++_}
-use Prim.Native.Nat.{_+_, _/_, _≤_}
+use Prim.Native.Nat.{_+_, _/_}
 use native.Mathlib.Omega.{arith}
 use borrow.Author.Needs.{needs}
 use lib.ListN.{length}
 use Rattle.desk_replies.specs.Replies.{decimal}
-use Rattle.desk_replies.proofs.Replies.{decimal-one, decimal-more, decimal-length, put-same, put-put, put-length}
+use Rattle.ground.proofs.Put.{put-same, put-put, put-length}
+use Rattle.desk_replies.proofs.Replies.{decimal-one, decimal-more, decimal-length}
 use Prim.Native.Nat.{ℕ, _<_}
 use borrow.Fn.Kinds.{In}
 use borrow.Fn.PlainCycle.{Measures, is, falls, and}
@@ -69,10 +70,7 @@ module _ (t : ℕ) where
       let else1 : lts.Else1 (R t) (At t) own.Post = search in
       let start : lts.Start (R t) (At t) own.Post = search in
       let d = decimal-length (start .args .n) (else1 .if1 .left) in
-      let r : start .args .at + length (decimal (start .args .n / 10)) ≤ length (start .args .out .now) = omega
-      (arith, d, start .pre .1) in
-      let l = put-length r (at-put-decimal .put-decimal .ensures) in
-      omega (arith, at-put-decimal .put-decimal .ensures .behind, start .pre .1)
+      omega (arith, d, put-length (at-put-decimal .put-decimal .ensures), at-put-decimal .put-decimal .ensures .behind, start .pre .1)
 
   same-length-2 : lts.Need-same-length-2 (R t) (At t) own.Post
   same-length-2 c = search needs
@@ -84,10 +82,8 @@ module _ (t : ℕ) where
       let else1 : lts.Else1 (R t) (At t) own.Post = search in
       let start : lts.Start (R t) (At t) own.Post = search in
       let n = start .args .n in
-      let d = decimal-length n (else1 .if1 .left) in
-      let r : start .args .at + length (decimal (n / 10)) ≤ length (start .args .out .now) = omega (arith, d, start .pre .1) in
       let e : decimal (n / 10) ++ (at-digit2 .digit2 .result ∷ []) ≡ decimal n = cc (decimal-more n (else1 .if1 .left)) in
-      put-same (put-put r (at-put-decimal .put-decimal .ensures) (c .before .before .put-byte2 .ensures)) e
+      put-same (put-put (at-put-decimal .put-decimal .ensures) (c .before .before .put-byte2 .ensures)) e
 
 pub +put-decimal-spec : {M : Type 1} → statement M
 +put-decimal-spec =

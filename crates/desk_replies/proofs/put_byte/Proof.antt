@@ -1,6 +1,6 @@
 -- One byte set is one byte laid, and the position behind it is the next.
-use Rattle.desk_replies.proofs.Replies.{put-one}
 use borrow.Author.Needs.{needs}
+use Rattle.ground.proofs.Put.{put-one}
 use Rattle.desk_replies.proofs.put_byte.Statement.{statement}
 use Rattle.desk_replies.proofs.put_byte.Tie as tie
 
@@ -14,7 +14,7 @@ same-length : tie.Need-same-length
 same-length c = search needs
 
 returns : tie.Need-returns
-returns c = put-one (c .args .out .now) (c .args .at) (c .args .b) (c .pre)
+returns c = put-one (c .args .out .now) (c .args .at) (c .args .b)
 
 pub put-byte-spec : {M : Type 1} → statement M
 put-byte-spec = tie.close (tie.spec slice-write-out add-result same-length returns)

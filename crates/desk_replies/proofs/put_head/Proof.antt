@@ -3,7 +3,8 @@ use mathlib.Core.Path.{refl}
 use mathlib.Core.List.{_∷_}
 use Rattle.desk_text.specs.Lines.{space}
 use Rattle.desk_replies.specs.Replies.{decimal}
-use Rattle.desk_replies.proofs.Replies.{rest-room, rest-byte-room, head-start, head-letter, head-space, head-number, head-gap, head-value}
+use Rattle.ground.proofs.Put.{rest-room, rest-byte-room}
+use Rattle.desk_replies.proofs.Replies.{head-start, head-letter, head-space, head-number, head-gap, head-value}
 use borrow.Author.Needs.{needs}
 use Rattle.desk_replies.proofs.put_head.Statement.{statement}
 use Rattle.desk_replies.proofs.put_head.Tie as tie

@@ -1,11 +1,12 @@
 -- The hex of the bytes to come, behind what is down, makes all; a byte is two digits, each below 16.
-use Rattle.desk_replies.proofs.Replies.{rest-byte, rest-byte-room}
 use mathlib.Core.Path.{refl}
 use Prim.Native.Nat.{_-_, _≤_}
 use native.Mathlib.Omega.{arith}
 use lib.ListN.{length, drop}
+use Rattle.ground.proofs.Put.{rest-byte, rest-byte-room}
 use Rattle.desk_replies.specs.Replies.{hexOf}
-use Rattle.desk_replies.proofs.Replies.{Rest, rest-start, rest-end, hex-step, hex-end}
+use Rattle.ground.proofs.Put.{Rest, rest-start, rest-end}
+use Rattle.desk_replies.proofs.Replies.{hex-step, hex-end}
 use Rattle.desk_replies.proofs.put_hex.Statement.{statement}
 use Rattle.desk_replies.proofs.put_hex.Tie as tie
 

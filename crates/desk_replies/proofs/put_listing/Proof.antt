@@ -5,7 +5,8 @@ use native.Mathlib.Omega.{arith}
 use lib.ListN.{length}
 use Rattle.desk_replies.specs.Replies.{tagsText}
 use Rattle.desk_text.specs.Lines.{lineFeed}
-use Rattle.desk_replies.proofs.Replies.{listing-room, head-fits, behind-head, rest-room, rest-put, rest-byte-room, rest-last}
+use Rattle.ground.proofs.Put.{rest-room, rest-put, rest-byte-room}
+use Rattle.desk_replies.proofs.Replies.{listing-room, head-fits, behind-head, reply-last}
 use borrow.Author.Needs.{needs}
 use Rattle.desk_replies.proofs.put_listing.Statement.{statement}
 use Rattle.desk_replies.proofs.put_listing.Tie as tie
@@ -58,7 +59,7 @@ returns c =
     let ts = a .tags .now in
     let h = listing-room (a .letter) (a .out .now) ts (λ i. omega (arith, at-shared-slice-known .shared-slice-known .given i))
     (omega arith) (start .pre) in
-    rest-last (rest-put {more = lineFeed ∷ []}
+    reply-last (rest-put {more = lineFeed ∷ []}
     (behind-head (a .letter) 0 (length ts) (tagsText ts) h (at-put-head .put-head .ensures)) refl (at-put-tags .put-tags .ensures))
     refl (c .before .before .put-byte .ensures)
 

@@ -2,7 +2,8 @@
 use mathlib.Core.Path.{refl}
 use mathlib.Core.List.{[]}
 use native.Mathlib.Omega.{arith}
-use Rattle.desk_replies.proofs.Replies.{reply-room, head-fits, behind-head, rest-byte-room, rest-last}
+use Rattle.ground.proofs.Put.{rest-byte-room}
+use Rattle.desk_replies.proofs.Replies.{reply-room, head-fits, behind-head, reply-last}
 use borrow.Author.Needs.{needs}
 use Rattle.desk_replies.proofs.put_reply.Statement.{statement}
 use Rattle.desk_replies.proofs.put_reply.Tie as tie
@@ -31,7 +32,7 @@ returns c =
     let start : tie.Start = search in
     let a = start .args in
     let h = reply-room (a .letter) (a .out .now) (a .number) (a .value) (omega arith) (omega arith) (start .pre) in
-    rest-last (behind-head (a .letter) (a .number) (a .value) [] h (at-put-head .put-head .ensures)) refl
+    reply-last (behind-head (a .letter) (a .number) (a .value) [] h (at-put-head .put-head .ensures)) refl
     (c .before .before .put-byte .ensures)
 
 pub put-reply-spec : {M : Type 1} → statement M

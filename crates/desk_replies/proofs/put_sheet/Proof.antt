@@ -6,7 +6,8 @@ use lib.ListN.{length}
 use Rattle.desk_text.specs.Lines.{space}
 use Rattle.desk_replies.specs.Replies.{hexOf}
 use Rattle.desk_text.specs.Lines.{lineFeed}
-use Rattle.desk_replies.proofs.Replies.{sheet-room, head-fits, behind-head, rest-room, rest-put, rest-byte, rest-byte-room, rest-last}
+use Rattle.ground.proofs.Put.{rest-room, rest-put, rest-byte, rest-byte-room}
+use Rattle.desk_replies.proofs.Replies.{sheet-room, head-fits, behind-head, reply-last}
 use borrow.Author.Needs.{needs}
 use Rattle.desk_replies.proofs.put_sheet.Statement.{statement}
 use Rattle.desk_replies.proofs.put_sheet.Tie as tie
@@ -65,7 +66,7 @@ returns c =
     let a = start .args in
     let s = a .sheet .now in
     let h = sheet-room (a .letter) (a .out .now) s (omega arith) (start .pre) in
-    rest-last (rest-put {more = lineFeed ∷ []}
+    reply-last (rest-put {more = lineFeed ∷ []}
     (rest-byte (behind-head (a .letter) 0 (length s) (space ∷ hexOf s) h (at-put-head .put-head .ensures)) refl refl
     (at-put-byte .put-byte .ensures)) refl (at-put-hex .put-hex .ensures)) refl (c .before .before .put-byte2 .ensures)
 

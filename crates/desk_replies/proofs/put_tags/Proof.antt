@@ -6,7 +6,8 @@ use native.Mathlib.Omega.{arith}
 use borrow.Author.Needs.{needs}
 use lib.ListN.{length, drop}
 use Rattle.desk_replies.specs.Replies.{tagsText, decimal}
-use Rattle.desk_replies.proofs.Replies.{Rest, rest-start, rest-put, rest-room, rest-byte, rest-byte-room, rest-end, tags-step, tags-end}
+use Rattle.ground.proofs.Put.{Rest, rest-start, rest-put, rest-room, rest-byte, rest-byte-room, rest-end}
+use Rattle.desk_replies.proofs.Replies.{tags-step, tags-end}
 use Rattle.desk_replies.proofs.put_tags.Statement.{statement}
 use Rattle.desk_replies.proofs.put_tags.Tie as tie
 

@@ -14,12 +14,10 @@ loop-holds : tie.Need-loop-holds Inv-loop μ-loop
 loop-holds c = prune-start (c .before .pre)
 
 tag-at-requires : tie.Need-tag-at-requires Inv-loop μ-loop
-tag-at-requires c κs = prune-inside (c .before .before .loop .inv)
+tag-at-requires c κs = search prune-inside
 
 same-length : tie.Need-same-length Inv-loop μ-loop
-same-length c =
-    let at-loop : tie.At-loop Inv-loop μ-loop = search in
-    at-loop .loop .inv .same-length
+same-length c = search
 
 returns : tie.Need-returns Inv-loop μ-loop
 returns c =
@@ -28,14 +26,10 @@ returns c =
     prune-at-tag (at-loop .loop .inv) (in-loop .loop-test .taken) (c .before .tag-at .ensures) (c .if1 .taken)
 
 child-at-requires : tie.Need-child-at-requires Inv-loop μ-loop
-child-at-requires c κs =
-    let at-loop : tie.At-loop Inv-loop μ-loop = search in
-    prune-inside (at-loop .loop .inv)
+child-at-requires c κs = search prune-inside
 
 same-length-2 : tie.Need-same-length-2 Inv-loop μ-loop
-same-length-2 c =
-    let at-loop : tie.At-loop Inv-loop μ-loop = search in
-    at-loop .loop .inv .same-length
+same-length-2 c = search
 
 returns-2 : tie.Need-returns-2 Inv-loop μ-loop
 returns-2 c =
@@ -47,41 +41,16 @@ returns-2 c =
     (c .before .child-at .ensures .0) (c .if2 .taken)
 
 parent-at-requires : tie.Need-parent-at-requires Inv-loop μ-loop
-parent-at-requires c κs =
-    let at-loop : tie.At-loop Inv-loop μ-loop = search in
-    prune-inside (at-loop .loop .inv)
+parent-at-requires c κs = search prune-inside
 
 unlink-requires : tie.Need-unlink-requires Inv-loop μ-loop
-unlink-requires c κs =
-    let in-loop : tie.In-loop Inv-loop μ-loop = search in
-    let at-loop : tie.At-loop Inv-loop μ-loop = search in
-    prune-unlinks (at-loop .loop .inv) (in-loop .loop-test .taken)
+unlink-requires c κs = search prune-unlinks
 
 loop-less : tie.Need-loop-less Inv-loop μ-loop
-loop-less c =
-    let at-parent-at : tie.After-parent-at Inv-loop μ-loop = search in
-    let else2 : tie.Else2 Inv-loop μ-loop = search in
-    let at-child-at : tie.After-child-at Inv-loop μ-loop = search in
-    let else1 : tie.Else1 Inv-loop μ-loop = search in
-    let at-tag-at : tie.After-tag-at Inv-loop μ-loop = search in
-    let in-loop : tie.In-loop Inv-loop μ-loop = search in
-    let at-loop : tie.At-loop Inv-loop μ-loop = search in
-    prune-less (at-loop .loop .inv) (in-loop .loop-test .taken) (at-tag-at .tag-at .ensures) (else1 .if1 .left)
-    (at-child-at .child-at .ensures .0) (else2 .if2 .left) (at-parent-at .parent-at .ensures .0)
-    (c .before .before .unlink .ensures)
+loop-less c = search prune-less
 
 loop-again : tie.Need-loop-again Inv-loop μ-loop
-loop-again c =
-    let at-parent-at : tie.After-parent-at Inv-loop μ-loop = search in
-    let else2 : tie.Else2 Inv-loop μ-loop = search in
-    let at-child-at : tie.After-child-at Inv-loop μ-loop = search in
-    let else1 : tie.Else1 Inv-loop μ-loop = search in
-    let at-tag-at : tie.After-tag-at Inv-loop μ-loop = search in
-    let in-loop : tie.In-loop Inv-loop μ-loop = search in
-    let at-loop : tie.At-loop Inv-loop μ-loop = search in
-    prune-up (at-loop .loop .inv) (in-loop .loop-test .taken) (at-tag-at .tag-at .ensures) (else1 .if1 .left)
-    (at-child-at .child-at .ensures .0) (else2 .if2 .left) (at-parent-at .parent-at .ensures .0)
-    (c .before .before .unlink .ensures)
+loop-again c = search prune-up
 
 same-length-3 : tie.Need-same-length-3 Inv-loop μ-loop
 same-length-3 c = c .before .loop .inv .same-length

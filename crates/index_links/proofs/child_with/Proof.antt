@@ -17,7 +17,7 @@ loop-holds : tie.Need-loop-holds Inv-loop μ-loop
 loop-holds c = seek-start (c .before .before .pre) (c .child-at .ensures .0)
 
 label-at-requires : tie.Need-label-at-requires Inv-loop μ-loop
-label-at-requires c κs = follows-inside (c .before .loop .inv .follows)
+label-at-requires c κs = search follows-inside
 
 returns : tie.Need-returns Inv-loop μ-loop
 returns c =
@@ -31,15 +31,10 @@ returns-2 c =
     seek-past (at-loop .loop .inv) (in-loop .loop-test .taken) (c .before .before .label-at .ensures) (c .if2 .taken)
 
 next-at-requires : tie.Need-next-at-requires Inv-loop μ-loop
-next-at-requires c κs =
-    let at-loop : tie.At-loop Inv-loop μ-loop = search in
-    follows-inside (at-loop .loop .inv .follows)
+next-at-requires c κs = search follows-inside
 
 loop-less : tie.Need-loop-less Inv-loop μ-loop
-loop-less c =
-    let in-loop : tie.In-loop Inv-loop μ-loop = search in
-    let at-loop : tie.At-loop Inv-loop μ-loop = search in
-    follows-less (at-loop .loop .inv .follows) (in-loop .loop-test .taken) (c .next-at .ensures .0)
+loop-less c = search follows-less
 
 loop-again : tie.Need-loop-again Inv-loop μ-loop
 loop-again c =

@@ -1,9 +1,8 @@
+-- The value of a line's refusal is 0, whichever line it is.
 use mathlib.Core.Path.{refl}
 use Rattle.kits.specs.Kits.{lineValue}
 use Rattle.kits.proofs.line_value.Statement.{statement}
 use Rattle.kits.proofs.line_value.Tie as tie
-use Rattle.kits.proofs.line_value.Reads as reads
-use Rattle.kits.proofs.line_value.Lts as lts
 
 returns : tie.Need-returns
 unfolding lineValue

@@ -16,17 +16,13 @@ node-count-requires : tie.Need-node-count-requires Inv-loop μ-loop
 node-count-requires c κs = tt
 
 loop-holds : tie.Need-loop-holds Inv-loop μ-loop
-loop-holds c = pass-start (c .node-count .ensures)
+loop-holds c = search pass-start
 
 few-if-requires : tie.Need-few-if-requires Inv-loop μ-loop
-few-if-requires c κs =
-    let start : tie.Start Inv-loop μ-loop = search in
-    (start .pre, pass-inside (c .before .loop .inv) (c .loop-test .taken))
+few-if-requires c κs = search pass-inside
 
 returns : tie.Need-returns Inv-loop μ-loop
-returns c =
-    let at-loop : tie.At-loop Inv-loop μ-loop = search in
-    pass-refuses (at-loop .loop .inv) (c .before .before .loop-test .taken) (c .before .few-if .ensures) (c .if1 .taken)
+returns c = search pass-refuses
 
 add-i : tie.Need-add-i Inv-loop μ-loop
 add-i c = omega arith
@@ -35,12 +31,10 @@ loop-less : tie.Need-loop-less Inv-loop μ-loop
 loop-less c = omega arith
 
 loop-again : tie.Need-loop-again Inv-loop μ-loop
-loop-again c =
-    let at-loop : tie.At-loop Inv-loop μ-loop = search in
-    pass-on (at-loop .loop .inv) (c .before .before .loop-test .taken) (c .before .few-if .ensures) (c .if1 .left)
+loop-again c = search pass-on
 
 returns-2 : tie.Need-returns-2 Inv-loop μ-loop
-returns-2 c = pass-end (c .before .loop .inv) (omega arith)
+returns-2 c = search pass-end
 
 pub fews-ok-spec : {M : Type 1} → statement M
 fews-ok-spec =

@@ -12,9 +12,10 @@ use Rattle.kits.proofs.Rows.{agreed-right, row-back}
 use Rattle.sheet.specs.Sheet.{placeBytes}
 use Rattle.sheet.specs.Reading.{newKit, recordSize}
 use Rattle.sheet.proofs.Numbers.{bytes-drop}
-use Rattle.sheet_judge.specs.Inner.{recordAt, listAt, WholeAt}
+use Rattle.sheet.specs.Inner.{recordAt, listAt, WholeAt}
 use Rattle.sheet_judge.proofs.Front.{one-bad}
-use Rattle.sheet_judge.proofs.Records.{end-moved, end-stays, new-short}
+use Rattle.sheet.proofs.Places.{end-moved}
+use Rattle.sheet_judge.proofs.Records.{end-stays, new-short}
 use Rattle.sheet_judge.proofs.Walk.{Judging, judging-start, judging-fault, judging-over, judging-good, judging-on}
 use Rattle.sheet_judge.proofs.judge_records.Statement.{statement}
 use Rattle.sheet_judge.proofs.judge_records.Tie as tie

@@ -1,33 +1,26 @@
 -- What is checked is the record's own lines; where the check is not good they are not, else the room decides.
 use mathlib.Core.Path.{_≡_, sym, _∙_, ap}
 use mathlib.Core.List.{List}
-use Prim.Native.Nat.{ℕ, _+_, _-_, _*_}
-use native.Mathlib.Omega.{arith}
-use lib.ListN.{length, take, drop, getD, length-take, length-drop}
+use Prim.Native.Nat.{ℕ, _-_}
+use lib.ListN.{length, take, drop}
 use lib.Dec.{leb}
 use Rattle.ground.specs.Calls.{decide}
 use Rattle.answers.specs.Answers.{reply}
 use Rattle.kits.specs.Kits.{listFaults, units, mostUnits}
-use Rattle.sheet_judge.specs.Inner.{listAt}
-use Rattle.sheet_judge.proofs.Records.{copied-part, check-bad, check-good}
+use Rattle.sheet.specs.Inner.{listAt}
+use Rattle.sheet.proofs.Places.{lent-list}
+use Rattle.sheet_judge.proofs.Records.{check-bad, check-good}
 use borrow.Author.Needs.{needs}
 use Rattle.sheet_judge.proofs.lines_good.Statement.{statement}
 use Rattle.sheet_judge.proofs.lines_good.Tie as tie
 
--- the part of the numbers that is lent: the record's lines
 part : (c : tie.After-list-in) →
     let start : tie.Start = search in
-    take (c .before .wide8 .result * 2 - 0) (drop 0 (c .list-in .result)) ≡ listAt (start .args .s .now) (start .args .at)
+    take (c .before .lines-size .result - 0) (drop 0 (c .list-in .result)) ≡ listAt (start .args .s .now) (start .args .at)
 part c =
     let start : tie.Start = search in
-    let s = start .args .s .now in
-    let at = start .args .at in
-    let n = c .before .wide8 .result * 2 in
-    let w : c .before .wide8 .result ≡ getD s (at + 2) 0 = c .before .wide8 .ensures .0 in
-    let l : length (take n (drop (at + 3) s)) ≡ n = omega
-    (arith, length-take n (drop (at + 3) s), length-drop (at + 3) s, start .pre) in
-    ap (λ (x : List ℕ). take (n - 0) (drop 0 x)) (c .list-in .ensures) ∙ copied-part (take n (drop (at + 3) s)) n l
-    (omega (arith, c .before .wide8 .ensures .1)) ∙ ap (λ (k : ℕ). take (k * 2) (drop (at + 3) s)) w
+    let n = c .before .lines-size .ensures in
+    lent-list (start .args .s .now) (start .args .at) (start .pre) (n .0) (n .1) (c .list-in .ensures)
 
 read : (c : tie.After-check-list) →
     let start : tie.Start = search in
@@ -37,27 +30,11 @@ read c =
     let start : tie.Start = search in
     c .check-list .ensures ∙ ap (λ (l : List ℕ). decide (listFaults (start .args .parts) l) 0) (part at-list-in)
 
-add-wide8 : tie.Need-add-wide8
-add-wide8 c = omega (arith, c .before .pre)
-
-shared-slice-read-wide8 : tie.Need-shared-slice-read-wide8
-shared-slice-read-wide8 c = omega (arith, c .before .before .pre)
-
-wide8-requires : tie.Need-wide8-requires
-wide8-requires c κs = search needs
-
-mul-n : tie.Need-mul-n
-mul-n c = omega (arith, c .wide8 .ensures .1)
-
-add-list-in : tie.Need-add-list-in
-add-list-in c =
-    let start : tie.Start = search in
-    omega (arith, start .pre)
+lines-size-requires : tie.Need-lines-size-requires
+lines-size-requires c κs = search needs
 
 list-in-requires : tie.Need-list-in-requires
-list-in-requires c κs =
-    let start : tie.Start = search in
-    (omega (arith, start .pre, c .wide8 .ensures .0), omega (arith, c .wide8 .ensures .1))
+list-in-requires c κs = search needs
 
 sub-check-list : tie.Need-sub-check-list
 sub-check-list c = search needs
@@ -108,11 +85,7 @@ pub lines-good-spec : {M : Type 1} → statement M
 lines-good-spec =
     tie.close
     (tie.spec
-    add-wide8
-    shared-slice-read-wide8
-    wide8-requires
-    mul-n
-    add-list-in
+    lines-size-requires
     list-in-requires
     sub-check-list
     part-check-list-start

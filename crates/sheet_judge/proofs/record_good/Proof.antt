@@ -20,7 +20,8 @@ use Rattle.kits.proofs.Rows.{row-back}
 use Rattle.nodes.specs.Held.{Kit}
 use Rattle.sheet.specs.Bytes.{fromBytes}
 use Rattle.sheet.specs.Reading.{hasTag}
-use Rattle.sheet_judge.specs.Inner.{listAt, goodLines, Tags}
+use Rattle.sheet.specs.Inner.{listAt}
+use Rattle.sheet_judge.specs.Inner.{goodLines, Tags}
 use Rattle.sheet_judge.proofs.Records.{new-zero, new-seen, new-lines, new-good, first-follows, next-follows, lines-short, not-before, is-before}
 use borrow.Author.Needs.{needs}
 use Rattle.sheet_judge.proofs.record_good.Statement.{statement}

@@ -3,12 +3,12 @@ use mathlib.Core.Path.{_≡_, sym, _∙_, ap}
 use Prim.Native.Nat.{_+_, _-_, _≤_}
 use native.Mathlib.Nat.{sub-zero}
 use native.Mathlib.Omega.{arith}
-use lib.ListN.{length, getD}
+use lib.ListN.{length}
 use Rattle.ground.specs.Lists.{anyb, eqList}
-use Rattle.sheet_judge.specs.Inner.{numberHere, nextPlace, numbersAt, endAt}
-use Rattle.sheet_judge.proofs.Numbers.{end-step, numbers-at-step, numbers-at-end, end-behind, any-yes, any-no, any-end}
+use Rattle.sheet.specs.Inner.{headBytes, numberHere, nextPlace, numbersAt, endAt}
+use Rattle.sheet.proofs.Places.{end-step, numbers-at-step, numbers-at-end, end-behind}
+use Rattle.sheet_judge.proofs.Numbers.{any-yes, any-no, any-end}
 use Rattle.sheet_judge.proofs.repeated.Statement.{statement}
-use Rattle.sheet.specs.Inner.{headBytes}
 use Rattle.sheet_judge.proofs.repeated.Tie as tie
 
 abbrev Inv-loop : tie.InvT-loop
@@ -38,38 +38,14 @@ here : (c : tie.After-same Inv-loop μ-loop) →
     let start : tie.Start Inv-loop μ-loop = search in
     c .same .result ≡ eqList (start .args .num .now) (numberHere (start .args .s .now) (at-loop .loop .at))
 here c =
-    let at-wide8 : tie.After-wide8 Inv-loop μ-loop = search in
-    let at-loop : tie.At-loop Inv-loop μ-loop = search in
     let start : tie.Start Inv-loop μ-loop = search in
-    let at = at-loop .loop .at in
-    let n = at-wide8 .wide8 .result in
-    let e : at + 1 + n - (at + 1) ≡ n = omega arith in
-    let w : n ≡ getD (start .args .s .now) at 0 = at-wide8 .wide8 .ensures .0 in
-    rw (e, w) at (c .same .ensures)
+    c .same .ensures ∙ ap (eqList (start .args .num .now)) (c .before .number-here .ensures)
 
 loop-holds : tie.Need-loop-holds Inv-loop μ-loop
 loop-holds c = (omega arith, rw sub-zero (c .before .before .pre), rw sub-zero)
 
-add-start : tie.Need-add-start Inv-loop μ-loop
-add-start c = omega (arith, inside c)
-
-shared-slice-read-wide8 : tie.Need-shared-slice-read-wide8 Inv-loop μ-loop
-shared-slice-read-wide8 c = omega (arith, inside (c .before))
-
-wide8-requires : tie.Need-wide8-requires Inv-loop μ-loop
-wide8-requires c κs = tt
-
-add-end : tie.Need-add-end Inv-loop μ-loop
-add-end c = omega (arith, inside (c .before .before), c .wide8 .ensures .0)
-
-sub-same : tie.Need-sub-same Inv-loop μ-loop
-sub-same c = omega arith
-
-part-same-start : tie.Need-part-same-start Inv-loop μ-loop
-part-same-start c = omega arith
-
-part-same-end : tie.Need-part-same-end Inv-loop μ-loop
-part-same-end c = omega (arith, inside (c .before .before), c .wide8 .ensures .0)
+number-here-requires : tie.Need-number-here-requires Inv-loop μ-loop
+number-here-requires c κs = inside c
 
 same-requires : tie.Need-same-requires Inv-loop μ-loop
 same-requires c κs = tt
@@ -83,6 +59,16 @@ returns c =
     (eqList (start .args .num .now)) (numberHere (start .args .s .now) (at-loop .loop .at)) _
     (sym (here (c .before)) ∙ c .if1 .taken)) ∙ at-loop .loop .inv .2
 
+item-size-requires : tie.Need-item-size-requires Inv-loop μ-loop
+item-size-requires c κs =
+    let in-loop : tie.In-loop Inv-loop μ-loop = search in
+    omega (arith, inside in-loop)
+
+add-at : tie.Need-add-at Inv-loop μ-loop
+add-at c =
+    let in-loop : tie.In-loop Inv-loop μ-loop = search in
+    omega (arith, inside in-loop, c .item-size .ensures .0)
+
 add-i : tie.Need-add-i Inv-loop μ-loop
 add-i c = omega arith
 
@@ -91,7 +77,8 @@ loop-less c = omega arith
 
 loop-again : tie.Need-loop-again Inv-loop μ-loop
 loop-again c =
-    let at-wide8 : tie.After-wide8 Inv-loop μ-loop = search in
+    let at-same : tie.After-same Inv-loop μ-loop = search in
+    let left : tie.Else1 Inv-loop μ-loop = search in
     let at-loop : tie.At-loop Inv-loop μ-loop = search in
     let start : tie.Start Inv-loop μ-loop = search in
     let s = start .args .s .now in
@@ -99,10 +86,10 @@ loop-again c =
     let i = at-loop .loop .i in
     let k = start .args .k in
     let num = start .args .num .now in
-    let w : at-wide8 .wide8 .result ≡ getD s at 0 = at-wide8 .wide8 .ensures .0 in
+    let w : at + c .item-size .result ≡ nextPlace s at = omega (arith, c .item-size .ensures .0) in
     let e = end-step s at i k (omega arith) in
     let m = ap (anyb (eqList num)) (numbers-at-step s at i k (omega arith)) ∙ any-no (eqList num) (numberHere s at)
-    (numbersAt s (nextPlace s at) (k - (i + 1))) (sym (here (c .before)) ∙ c .if1 .left) in
+    (numbersAt s (nextPlace s at) (k - (i + 1))) (sym (here at-same) ∙ left .if1 .left) in
     (omega arith, rw w (omega (arith, at-loop .loop .inv .1)), rw w (sym m ∙ at-loop .loop .inv .2))
 
 returns-2 : tie.Need-returns-2 Inv-loop μ-loop
@@ -119,15 +106,11 @@ repeated-spec =
     Inv-loop
     μ-loop
     loop-holds
-    add-start
-    shared-slice-read-wide8
-    wide8-requires
-    add-end
-    sub-same
-    part-same-start
-    part-same-end
+    number-here-requires
     same-requires
     returns
+    item-size-requires
+    add-at
     add-i
     loop-less
     loop-again

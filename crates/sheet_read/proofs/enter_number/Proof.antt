@@ -1,6 +1,7 @@
 -- Length and number stand in the sheet as they stand in a slot, so they are laid over it as one stretch.
 use mathlib.Core.Path.{ap, _∙_}
-use Prim.Native.Nat.{_+_, _*_}
+use Prim.Native.Nat.{_*_}
+use native.Mathlib.Omega.{arith}
 use borrow.Author.Needs.{needs}
 use Rattle.ground.specs.Laid.{laid}
 use Rattle.register.specs.Register.{slotBytes}
@@ -8,17 +9,11 @@ use Rattle.sheet_read.proofs.Slots.{number-lent}
 use Rattle.sheet_read.proofs.enter_number.Statement.{statement}
 use Rattle.sheet_read.proofs.enter_number.Tie as tie
 
+item-size-requires : tie.Need-item-size-requires
+item-size-requires c κs = search needs
+
 add-end : tie.Need-add-end
 add-end c = search needs
-
-shared-slice-read-wide8 : tie.Need-shared-slice-read-wide8
-shared-slice-read-wide8 c = search needs
-
-wide8-requires : tie.Need-wide8-requires
-wide8-requires c κs = search needs
-
-add-end-2 : tie.Need-add-end-2
-add-end-2 c = search needs
 
 mul-copy-in : tie.Need-mul-copy-in
 mul-copy-in c = search needs
@@ -40,22 +35,20 @@ same-length c = search needs
 
 returns : tie.Need-returns
 returns c =
-    let at-wide8 : tie.After-wide8 = search in
-    let start : tie.Start = search in (
-      ap (λ n. start .args .at + 1 + n) (at-wide8 .wide8 .ensures .0),
-      c .before .before .copy-in .ensures ∙ ap
-          (laid (start .args .reg .now) (start .args .k * slotBytes))
-          (number-lent (start .pre) (at-wide8 .wide8 .result) (at-wide8 .wide8 .ensures .0)),
+    let at-item-size : tie.After-item-size = search in
+    let start : tie.Start = search in
+    let n = at-item-size .item-size .ensures .0 in (
+      omega (arith, n),
+      c .before .before .copy-in .ensures ∙ ap (laid (start .args .reg .now) (start .args .k * slotBytes))
+          (number-lent (start .pre) (at-item-size .item-size .result) n),
     )
 
 pub enter-number-spec : {M : Type 1} → statement M
 enter-number-spec =
     tie.close
     (tie.spec
+    item-size-requires
     add-end
-    shared-slice-read-wide8
-    wide8-requires
-    add-end-2
     mul-copy-in
     sub-copy-in
     part-copy-in-start

@@ -16,12 +16,10 @@ clear-requires : tie.Need-clear-requires Inv-loop μ-loop
 clear-requires c κs = tt
 
 loop-holds : tie.Need-loop-holds Inv-loop μ-loop
-loop-holds c =
-    let start : tie.Start Inv-loop μ-loop = search in
-    entering-start (start .pre) (c .before .before .clear .ensures)
+loop-holds c = search entering-start
 
 enter-number-requires : tie.Need-enter-number-requires Inv-loop μ-loop
-enter-number-requires c κs = entering-stands (c .before .before .loop .inv) (omega arith)
+enter-number-requires c κs = search entering-stands
 
 add-k : tie.Need-add-k Inv-loop μ-loop
 add-k c = omega arith
@@ -30,12 +28,7 @@ loop-less : tie.Need-loop-less Inv-loop μ-loop
 loop-less c = omega arith
 
 loop-again : tie.Need-loop-again Inv-loop μ-loop
-loop-again c =
-    let at-enter-number : tie.After-enter-number Inv-loop μ-loop = search in
-    let at-loop : tie.At-loop Inv-loop μ-loop = search in
-    entering-on (at-loop .loop .inv) (omega arith) (at-enter-number .enter-number .result)
-    (at-enter-number .enter-number .last .0) (at-enter-number .enter-number .ensures .0)
-    (at-enter-number .enter-number .ensures .1)
+loop-again c = search entering-on
 
 same-length : tie.Need-same-length Inv-loop μ-loop
 same-length c =

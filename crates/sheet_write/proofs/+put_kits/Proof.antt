@@ -1,15 +1,15 @@
 -- Depth plus label rises along both links: the measure. A node's own record, those below and those behind are all.
-use mathlib.Core.Path.{_≡_, ap, sym, _∙_}
+use mathlib.Core.Path.{_≡_, ap, _∙_}
 use mathlib.Core.List.{List, _++_}
-use Prim.Native.Nat.{_+_, _-_}
+use Prim.Native.Nat.{_+_}
 use native.Mathlib.Omega.{arith}
 use lib.ListN.{length}
+use Rattle.ground.specs.Laid.{Put}
+use Rattle.ground.proofs.Put.{Rest, rest-behind, rest-lent, rest-fits, rest-inside, last-fits, last-lent, first-fits, tail-of, back, put-none, put-same, put-length}
 use Rattle.nodes.specs.Nodes.{child, next, size}
 use Rattle.nodes.specs.Inner.{Used, rank}
 use Rattle.nodes.proofs.Walk.{child-less, next-less, child-live}
-use Rattle.sheet_write.specs.Inner.{SetDown, ownRecord, recordsFrom}
-use Rattle.sheet_write.proofs.Down.{Going, rest-of, back, down-none, down-same, down-size, first-room, going-of, going-room}
-use Rattle.sheet_write.proofs.Down.{going-inside, going-on, last-inside, last-room, going-last}
+use Rattle.sheet_write.specs.Inner.{ownRecord, recordsFrom}
 use Rattle.sheet_write.proofs.Records.{from-none, from-some}
 use Prim.Native.Nat.{ℕ, _<_}
 use borrow.Fn.Kinds.{In}
@@ -63,12 +63,12 @@ module _ (t : ℕ) where
     first :
         let at-put-own : lts.After-put-own (R t) (At t) own.Post = search in
         let start : lts.Start (R t) (At t) own.Post = search in
-        Going (start .args .out .now) (at-put-own .put-own .last .0) (at-put-own .put-own .result) (below ++ behind)
-        (recordsFrom (start .args .nodes .now) (start .args .link))
+        Rest (start .args .out .now) 0 (recordsFrom (start .args .nodes .now) (start .args .link)) (at-put-own .put-own .last .0)
+        (at-put-own .put-own .result) (below ++ behind)
     first =
         let else1 : lts.Else1 (R t) (At t) own.Post = search in
         let start : lts.Start (R t) (At t) own.Post = search in
-        going-of (below ++ behind) (c .before .before .put-own .ensures)
+        rest-behind (below ++ behind) (c .before .before .put-own .ensures)
         (from-some (start .args .nodes .now) (start .pre .1 .0) (start .args .link) (used else1)) (start .pre .1 .1 .1)
 
   module _ (c : lts.After-slice-known3 (R t) (At t) own.Post) where
@@ -76,33 +76,31 @@ module _ (t : ℕ) where
         let at-put-kits : lts.After-put-kits (R t) (At t) own.Post = search in
         let at-slice-known2 : lts.After-slice-known2 (R t) (At t) own.Post = search in
         let at-put-own : lts.After-put-own (R t) (At t) own.Post = search in
-        SetDown (rest-of (at-put-own .put-own .last .0) (at-put-own .put-own .result)) (at-put-kits .put-kits .last .0)
-        (below at-slice-known2) (at-put-kits .put-kits .result)
+        Put (tail-of (at-put-own .put-own .last .0) (at-put-own .put-own .result)) 0 (below at-slice-known2)
+        (at-put-kits .put-kits .result) (at-put-kits .put-kits .last .0)
     below-down =
         let at-child-at : lts.After-child-at (R t) (At t) own.Post = search in
         let start : lts.Start (R t) (At t) own.Post = search in
-        down-same (c .before .before .put-kits .ensures)
+        put-same (c .before .before .put-kits .ensures)
         (ap (recordsFrom (start .args .nodes .now)) (at-child-at .child-at .ensures .0))
 
     below-ends :
         let at-slice-known2 : lts.After-slice-known2 (R t) (At t) own.Post = search in
         c .before .before .put-kits .result ≡ length (below at-slice-known2)
-    below-ends = below-down .ends
+    below-ends = omega (arith, below-down .behind)
 
     second :
         let at-put-kits : lts.After-put-kits (R t) (At t) own.Post = search in
         let at-slice-known2 : lts.After-slice-known2 (R t) (At t) own.Post = search in
         let at-put-own : lts.After-put-own (R t) (At t) own.Post = search in
         let start : lts.Start (R t) (At t) own.Post = search in
-        Going (start .args .out .now)
+        Rest (start .args .out .now) 0 (recordsFrom (start .args .nodes .now) (start .args .link))
         (back (at-put-own .put-own .last .0) (at-put-own .put-own .result) (at-put-kits .put-kits .last .0))
         (at-put-own .put-own .result + at-put-kits .put-kits .result) (behind at-slice-known2)
-        (recordsFrom (start .args .nodes .now) (start .args .link))
     second =
         let at-put-kits : lts.After-put-kits (R t) (At t) own.Post = search in
         let at-slice-known2 : lts.After-slice-known2 (R t) (At t) own.Post = search in
-        going-on (below at-slice-known2) (behind at-slice-known2) (first at-slice-known2) (at-put-kits .put-kits .last .0)
-        (at-put-kits .put-kits .result) below-down
+        rest-lent (below at-slice-known2) (behind at-slice-known2) (first at-slice-known2) below-down
 
   module _ (c : lts.After-slice-known4 (R t) (At t) own.Post) where
     behind-down :
@@ -110,40 +108,38 @@ module _ (t : ℕ) where
         let at-put-kits : lts.After-put-kits (R t) (At t) own.Post = search in
         let at-slice-known2 : lts.After-slice-known2 (R t) (At t) own.Post = search in
         let at-put-own : lts.After-put-own (R t) (At t) own.Post = search in
-        SetDown (rest-of (back (at-put-own .put-own .last .0) (at-put-own .put-own .result) (at-put-kits .put-kits .last .0))
-        (at-put-own .put-own .result + at-put-kits .put-kits .result)) (at-put-kits2 .put-kits2 .last .0) (behind at-slice-known2)
-        (at-put-kits2 .put-kits2 .result)
+        Put (tail-of (back (at-put-own .put-own .last .0) (at-put-own .put-own .result) (at-put-kits .put-kits .last .0))
+        (at-put-own .put-own .result + at-put-kits .put-kits .result)) 0 (behind at-slice-known2) (at-put-kits2 .put-kits2 .result)
+        (at-put-kits2 .put-kits2 .last .0)
     behind-down =
         let at-next-at : lts.After-next-at (R t) (At t) own.Post = search in
         let start : lts.Start (R t) (At t) own.Post = search in
-        down-same (c .before .before .put-kits2 .ensures)
+        put-same (c .before .before .put-kits2 .ensures)
         (ap (recordsFrom (start .args .nodes .now)) (at-next-at .next-at .ensures .0))
 
     behind-ends :
         let at-slice-known2 : lts.After-slice-known2 (R t) (At t) own.Post = search in
         c .before .before .put-kits2 .result ≡ length (behind at-slice-known2)
-    behind-ends = behind-down .ends
+    behind-ends = omega (arith, behind-down .behind)
 
     third :
         let at-put-kits2 : lts.After-put-kits2 (R t) (At t) own.Post = search in
         let at-put-kits : lts.After-put-kits (R t) (At t) own.Post = search in
         let at-put-own : lts.After-put-own (R t) (At t) own.Post = search in
         let start : lts.Start (R t) (At t) own.Post = search in
-        SetDown (start .args .out .now)
+        Put (start .args .out .now) 0 (recordsFrom (start .args .nodes .now) (start .args .link))
+        (at-put-own .put-own .result + at-put-kits .put-kits .result + at-put-kits2 .put-kits2 .result)
         (back (back (at-put-own .put-own .last .0) (at-put-own .put-own .result) (at-put-kits .put-kits .last .0))
         (at-put-own .put-own .result + at-put-kits .put-kits .result) (at-put-kits2 .put-kits2 .last .0))
-        (recordsFrom (start .args .nodes .now) (start .args .link))
-        (at-put-own .put-own .result + at-put-kits .put-kits .result + at-put-kits2 .put-kits2 .result)
     third =
         let at-put-kits2 : lts.After-put-kits2 (R t) (At t) own.Post = search in
         let at-slice-known3 : lts.After-slice-known3 (R t) (At t) own.Post = search in
-        going-last (second at-slice-known3) (at-put-kits2 .put-kits2 .last .0) (at-put-kits2 .put-kits2 .result) behind-down
+        last-lent (second at-slice-known3) behind-down
 
   returns : lts.Need-returns (R t) (At t) own.Post
   returns c =
       let start : lts.Start (R t) (At t) own.Post = search in
-      down-same (down-none (start .args .out .now))
-      (sym (ap (recordsFrom (start .args .nodes .now)) (c .if1 .taken) ∙ from-none (start .args .nodes .now) (start .pre .1 .0)))
+      put-none (start .args .out .now) 0 ((ap (recordsFrom (start .args .nodes .now)) (c .if1 .taken) ∙ from-none (start .args .nodes .now) (start .pre .1 .0)))
 
   put-own-requires : lts.Need-put-own-requires (R t) (At t) own.Post
   put-own-requires c κs =
@@ -151,7 +147,7 @@ module _ (t : ℕ) where
         start .pre .1 .0,
         (
           used (c .before) .inside,
-          first-room (start .args .out .now) (ownRecord (start .args .nodes .now) (start .args .link))
+          first-fits (start .args .out .now) (ownRecord (start .args .nodes .now) (start .args .link))
               (recordsFrom (start .args .nodes .now) (child (start .args .nodes .now) (start .args .link)) ++ recordsFrom
               (start .args .nodes .now) (next (start .args .nodes .now) (start .args .link)))
               (recordsFrom (start .args .nodes .now) (start .args .link))
@@ -160,10 +156,10 @@ module _ (t : ℕ) where
       )
 
   sub-put-kits : lts.Need-sub-put-kits (R t) (At t) own.Post
-  sub-put-kits c = omega (arith, going-inside (below c) (behind c) (first c))
+  sub-put-kits c = omega (arith, rest-inside (below c) (behind c) (first c))
 
   part-put-kits-start : lts.Need-part-put-kits-start (R t) (At t) own.Post
-  part-put-kits-start c = omega (arith, going-inside (below c) (behind c) (first c))
+  part-put-kits-start c = omega (arith, rest-inside (below c) (behind c) (first c))
 
   part-put-kits-end : lts.Need-part-put-kits-end (R t) (At t) own.Post
   part-put-kits-end c = omega arith
@@ -187,7 +183,7 @@ module _ (t : ℕ) where
           (
             rw e (child-live S (start .args .link) (u .inside)),
             rw e
-                (going-room (below at-slice-known2) (behind at-slice-known2) (first at-slice-known2)),
+                (rest-fits (below at-slice-known2) (behind at-slice-known2) (first at-slice-known2)),
           ),
         ),
       )
@@ -197,17 +193,17 @@ module _ (t : ℕ) where
       let at-slice-known2 : lts.After-slice-known2 (R t) (At t) own.Post = search in
       omega (
         arith,
-        going-inside (below at-slice-known2) (behind at-slice-known2) (first at-slice-known2),
+        rest-inside (below at-slice-known2) (behind at-slice-known2) (first at-slice-known2),
         first
             at-slice-known2 .size,
         below-ends c,
       )
 
   sub-put-kits-2 : lts.Need-sub-put-kits-2 (R t) (At t) own.Post
-  sub-put-kits-2 c = omega (arith, last-inside (second c))
+  sub-put-kits-2 c = omega (arith, second c .room)
 
   part-put-kits-start-2 : lts.Need-part-put-kits-start-2 (R t) (At t) own.Post
-  part-put-kits-start-2 c = omega (arith, last-inside (second c))
+  part-put-kits-start-2 c = omega (arith, second c .room)
 
   part-put-kits-end-2 : lts.Need-part-put-kits-end-2 (R t) (At t) own.Post
   part-put-kits-end-2 c = omega arith
@@ -225,18 +221,18 @@ module _ (t : ℕ) where
       let S = start .pre .1 .0 in
       let e = c .next-at .ensures .0 in (
         omega (arith, start .pre .0, next-less S (start .args .link) u, ap (rank (start .args .nodes .now)) e),
-        (S, (rw e (S .good (start .args .link) u .sibling), rw e (last-room (second (c .before .before))))),
+        (S, (rw e (S .good (start .args .link) u .sibling), rw e (last-fits (second (c .before .before))))),
       )
 
   add-result : lts.Need-add-result (R t) (At t) own.Post
   add-result c =
       let at-slice-known3 : lts.After-slice-known3 (R t) (At t) own.Post = search in
-      omega (arith, last-inside (second at-slice-known3), second at-slice-known3 .size, behind-ends c)
+      omega (arith, second at-slice-known3 .room, second at-slice-known3 .size, behind-ends c)
 
   same-length : lts.Need-same-length (R t) (At t) own.Post
   same-length c =
       let start : lts.Start (R t) (At t) own.Post = search in
-      down-size (third c) (start .pre .1 .1 .1)
+      put-length (third c)
 
   returns-2 : lts.Need-returns-2 (R t) (At t) own.Post
   returns-2 c = third c

@@ -4,7 +4,7 @@ use Prim.Native.Nat.{_+_, _-_, _≤_}
 use native.Mathlib.Omega.{arith}
 use lib.ListN.{length}
 use Rattle.ground.specs.Lists.{from}
-use Rattle.nodes.specs.Nodes.{size, nodesOf}
+use Rattle.nodes.specs.Nodes.{size, nodesOf, mostNodes}
 use Rattle.nodes.proofs.Fields.{from-root}
 use Rattle.sheet_write.specs.Inner.{kitsAt}
 use Rattle.sheet_write.proofs.Records.{kits-yes, kits-no, kits-end}
@@ -13,7 +13,7 @@ use Rattle.sheet_write.proofs.count_kits.Tie as tie
 
 abbrev Inv-loop : tie.InvT-loop
 Inv-loop nodes n count₀ i₀ count i =
-    (n ≡ size nodes) × (n ≤ 4096) × (i ≤ n)
+    (n ≡ size nodes) × (n ≤ mostNodes) × (i ≤ n)
     × (count + length (kitsAt nodes (from i (n - i))) ≡ length (kitsAt nodes (nodesOf nodes))) × (count ≤ i)
 
 abbrev μ-loop : tie.MeasureT-loop

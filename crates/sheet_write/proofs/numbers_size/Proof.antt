@@ -4,6 +4,8 @@ use Prim.Native.Nat.{_+_, _-_, _*_, _≤_}
 use native.Mathlib.Nat.{sub-zero}
 use native.Mathlib.Omega.{arith}
 use lib.ListN.{length, length-append}
+use Rattle.ground.specs.Limits.{mostParts}
+use Rattle.sheet.specs.Inner.{mostItem}
 use Rattle.register.specs.Register.{numberAt}
 use Rattle.sheet.specs.Sheet.{numberItem}
 use Rattle.sheet_write.specs.Inner.{numbersFrom}
@@ -13,7 +15,7 @@ use Rattle.sheet_write.proofs.numbers_size.Tie as tie
 
 abbrev Inv-loop : tie.InvT-loop
 Inv-loop reg n total₀ k₀ total k =
-    (k ≤ n) × (n ≤ 255) × (total + length (numbersFrom reg k (n - k)) ≡ length (numbersFrom reg 0 n)) × (total ≤ 25 * k)
+    (k ≤ n) × (n ≤ mostParts) × (total + length (numbersFrom reg k (n - k)) ≡ length (numbersFrom reg 0 n)) × (total ≤ mostItem * k)
 
 abbrev μ-loop : tie.MeasureT-loop
 μ-loop reg n total₀ k₀ total k = n - k

@@ -5,57 +5,53 @@ use Prim.Native.Nat.{_+_, _-_}
 use native.Mathlib.Omega.{arith}
 use lib.ListN.{length}
 use borrow.Rule.Slice.PartMut.{putMid}
+use Rattle.ground.proofs.Put.{Rest, rest-behind, rest-lent, rest-fits, rest-inside, last-fits, last-lent, put-length}
 use Rattle.sheet.specs.Bytes.{two, inBytes}
 use Rattle.sheet.specs.Sheet.{version}
 use Rattle.sheet.proofs.Numbers.{two-length}
 use Rattle.sheet_write.specs.Inner.{headItems}
-use Rattle.sheet_write.proofs.Down.{Going, going-of, going-room, going-inside, going-on, last-inside, last-room, going-last, down-size}
 use borrow.Author.Needs.{needs}
 use Rattle.sheet_write.proofs.put_head.Statement.{statement}
 use Rattle.sheet_write.proofs.put_head.Tie as tie
 
 first : (c : tie.After-slice-known2) →
     let start : tie.Start = search in
-    Going (start .args .out .now) (c .before .before .copy-in .last .0) 3 (two version ++ two (start .args .parts))
-    (headItems (start .args .parts))
+    Rest (start .args .out .now) 0 (headItems (start .args .parts)) (c .before .before .copy-in .last .0) 3 (two version ++ two (start .args .parts))
 unfolding headItems
 first c =
     let start : tie.Start = search in
-    going-of (two version ++ two (start .args .parts)) (record { ends = refl; is = c .before .before .copy-in .ensures }) refl
+    rest-behind (two version ++ two (start .args .parts)) (record { behind = refl; lies = c .before .before .copy-in .ensures }) refl
     (start .pre)
 
 second : (c : tie.After-slice-known3) →
     let at-put-two : tie.After-put-two = search in
     let at-copy-in : tie.After-copy-in = search in
     let start : tie.Start = search in
-    Going (start .args .out .now)
+    Rest (start .args .out .now) 0 (headItems (start .args .parts))
     (putMid 3 (length (at-copy-in .copy-in .last .0) - 3) (at-copy-in .copy-in .last .0) (at-put-two .put-two .last .0))
-    (3 + at-put-two .put-two .result) (two (start .args .parts)) (headItems (start .args .parts))
+    (3 + at-put-two .put-two .result) (two (start .args .parts))
 second c =
     let at-put-two : tie.After-put-two = search in
     let at-slice-known2 : tie.After-slice-known2 = search in
     let start : tie.Start = search in
-    going-on (two version) (two (start .args .parts)) (first at-slice-known2) (at-put-two .put-two .last .0)
-    (at-put-two .put-two .result) (at-put-two .put-two .ensures)
+    rest-lent (two version) (two (start .args .parts)) (first at-slice-known2) (at-put-two .put-two .ensures)
 
 slice-aggregate-copy-in : tie.Need-slice-aggregate-copy-in
 slice-aggregate-copy-in c = search needs
 
 copy-in-requires : tie.Need-copy-in-requires
 unfolding headItems inBytes
-copy-in-requires c κs =
-    let start : tie.Start = search in
-    omega (arith, start .pre)
+copy-in-requires c κs = omega arith
 
 sub-put-two : tie.Need-sub-put-two
 sub-put-two c =
     let start : tie.Start = search in
-    omega (arith, going-inside (two version) (two (start .args .parts)) (first c))
+    omega (arith, rest-inside (two version) (two (start .args .parts)) (first c))
 
 part-put-two-start : tie.Need-part-put-two-start
 part-put-two-start c =
     let start : tie.Start = search in
-    omega (arith, going-inside (two version) (two (start .args .parts)) (first c))
+    omega (arith, rest-inside (two version) (two (start .args .parts)) (first c))
 
 part-put-two-end : tie.Need-part-put-two-end
 part-put-two-end c = search needs
@@ -63,16 +59,16 @@ part-put-two-end c = search needs
 put-two-requires : tie.Need-put-two-requires
 put-two-requires c κs =
     let start : tie.Start = search in
-    omega (arith, two-length version, going-room (two version) (two (start .args .parts)) (first (c .before)))
+    omega (arith, two-length version, rest-fits (two version) (two (start .args .parts)) (first (c .before)))
 
 add-at : tie.Need-add-at
-add-at c = omega (arith, two-length version, c .before .before .put-two .ensures .ends)
+add-at c = omega (arith, two-length version, c .before .before .put-two .ensures .behind)
 
 sub-put-two-2 : tie.Need-sub-put-two-2
-sub-put-two-2 c = omega (arith, last-inside (second c))
+sub-put-two-2 c = omega (arith, second c .room)
 
 part-put-two-start-2 : tie.Need-part-put-two-start-2
-part-put-two-start-2 c = omega (arith, last-inside (second c))
+part-put-two-start-2 c = omega (arith, second c .room)
 
 part-put-two-end-2 : tie.Need-part-put-two-end-2
 part-put-two-end-2 c = search needs
@@ -80,7 +76,7 @@ part-put-two-end-2 c = search needs
 put-two-requires-2 : tie.Need-put-two-requires-2
 put-two-requires-2 c κs =
     let start : tie.Start = search in
-    omega (arith, two-length (start .args .parts), last-room (second (c .before)))
+    omega (arith, two-length (start .args .parts), last-fits (second (c .before)))
 
 add-result : tie.Need-add-result
 add-result c =
@@ -90,8 +86,8 @@ add-result c =
       arith,
       two-length version,
       two-length (start .args .parts),
-      c .before .before .put-two2 .ensures .ends,
-      at-put-two .put-two .ensures .ends,
+      c .before .before .put-two2 .ensures .behind,
+      at-put-two .put-two .ensures .behind,
     )
 
 same-length : tie.Need-same-length
@@ -99,15 +95,13 @@ same-length c =
     let at-put-two2 : tie.After-put-two2 = search in
     let at-slice-known3 : tie.After-slice-known3 = search in
     let start : tie.Start = search in
-    down-size (going-last (second at-slice-known3) (at-put-two2 .put-two2 .last .0) (at-put-two2 .put-two2 .result)
-    (at-put-two2 .put-two2 .ensures)) (start .pre)
+    put-length (last-lent (second at-slice-known3) (at-put-two2 .put-two2 .ensures))
 
 returns : tie.Need-returns
 returns c =
     let at-put-two2 : tie.After-put-two2 = search in
     let at-slice-known3 : tie.After-slice-known3 = search in
-    going-last (second at-slice-known3) (at-put-two2 .put-two2 .last .0) (at-put-two2 .put-two2 .result)
-    (at-put-two2 .put-two2 .ensures)
+    last-lent (second at-slice-known3) (at-put-two2 .put-two2 .ensures)
 
 pub put-head-spec : {M : Type 1} → statement M
 put-head-spec =

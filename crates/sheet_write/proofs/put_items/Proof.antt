@@ -1,15 +1,16 @@
 -- The sheet is head, numbers, kit count and records; each is set down in the rest behind the last.
 use mathlib.Core.Path.{_≡_, ap}
 use mathlib.Core.List.{List, _++_}
-use Prim.Native.Nat.{ℕ, _+_, _-_}
+use Prim.Native.Nat.{ℕ, _+_}
 use native.Mathlib.Omega.{arith}
+use Rattle.ground.specs.Laid.{Put}
+use Rattle.ground.proofs.Put.{Rest, rest-behind, rest-lent, rest-fits, rest-inside, last-fits, last-lent, first-fits, tail-of, back, put-same, put-length}
 use Rattle.register.proofs.Sound.{ready-short}
 use Rattle.nodes.specs.Inner.{walkAll}
 use Rattle.sheet.specs.Bytes.{two}
 use Rattle.sheet.specs.Sheet.{encode, contentsOf}
 use Rattle.sheet.proofs.Numbers.{two-length}
-use Rattle.sheet_write.specs.Inner.{SetDown, headItems, numbersFrom, recordsAt}
-use Rattle.sheet_write.proofs.Down.{Going, rest-of, back, down-same, down-size, first-room, going-of, going-room, going-inside, going-on, last-inside, last-room, going-last}
+use Rattle.sheet_write.specs.Inner.{headItems, numbersFrom, recordsAt}
 use Rattle.sheet_write.proofs.Whole.{sheet-items}
 use borrow.Author.Needs.{needs}
 use Rattle.sheet_write.proofs.put_items.Statement.{statement}
@@ -33,56 +34,52 @@ module _ (c : tie.Start) where
 first : (c : tie.After-slice-known2) →
     let at-put-head : tie.After-put-head = search in
     let start : tie.Start = search in
-    Going (start .args .out .now) (at-put-head .put-head .last .0) (at-put-head .put-head .result)
-    (numbers start ++ (count start ++ records start)) (encode (contentsOf (start .args .reg .now) (start .args .nodes .now)))
+    Rest (start .args .out .now) 0 (encode (contentsOf (start .args .reg .now) (start .args .nodes .now))) (at-put-head .put-head .last .0)
+    (at-put-head .put-head .result) (numbers start ++ (count start ++ records start))
 first c =
     let start : tie.Start = search in
-    going-of (numbers start ++ (count start ++ records start)) (c .before .before .put-head .ensures) (items start)
+    rest-behind (numbers start ++ (count start ++ records start)) (c .before .before .put-head .ensures) (items start)
     (start .pre .1 .1 .1)
 
 numbers-down : (c : tie.After-slice-known3) →
     let at-put-numbers : tie.After-put-numbers = search in
     let at-put-head : tie.After-put-head = search in
     let start : tie.Start = search in
-    SetDown (rest-of (at-put-head .put-head .last .0) (at-put-head .put-head .result)) (at-put-numbers .put-numbers .last .0)
-    (numbers start) (at-put-numbers .put-numbers .result)
+    Put (tail-of (at-put-head .put-head .last .0) (at-put-head .put-head .result)) 0 (numbers start) (at-put-numbers .put-numbers .result)
+    (at-put-numbers .put-numbers .last .0)
 numbers-down c =
     let at-wide16 : tie.After-wide16 = search in
     let start : tie.Start = search in
-    down-same (c .before .before .put-numbers .ensures)
+    put-same (c .before .before .put-numbers .ensures)
     (ap (numbersFrom (start .args .reg .now) 0) (at-wide16 .wide16 .ensures .0))
 
 second : (c : tie.After-slice-known3) →
     let at-put-numbers : tie.After-put-numbers = search in
     let at-put-head : tie.After-put-head = search in
     let start : tie.Start = search in
-    Going (start .args .out .now)
+    Rest (start .args .out .now) 0 (encode (contentsOf (start .args .reg .now) (start .args .nodes .now)))
     (back (at-put-head .put-head .last .0) (at-put-head .put-head .result) (at-put-numbers .put-numbers .last .0))
     (at-put-head .put-head .result + at-put-numbers .put-numbers .result) (count start ++ records start)
-    (encode (contentsOf (start .args .reg .now) (start .args .nodes .now)))
 second c =
     let at-put-numbers : tie.After-put-numbers = search in
     let at-slice-known2 : tie.After-slice-known2 = search in
     let start : tie.Start = search in
-    going-on (numbers start) (count start ++ records start) (first at-slice-known2) (at-put-numbers .put-numbers .last .0)
-    (at-put-numbers .put-numbers .result) (numbers-down c)
+    rest-lent (numbers start) (count start ++ records start) (first at-slice-known2) (numbers-down c)
 
 third : (c : tie.After-slice-known4) →
     let at-put-two : tie.After-put-two = search in
     let at-put-numbers : tie.After-put-numbers = search in
     let at-put-head : tie.After-put-head = search in
     let start : tie.Start = search in
-    Going (start .args .out .now)
+    Rest (start .args .out .now) 0 (encode (contentsOf (start .args .reg .now) (start .args .nodes .now)))
     (back (back (at-put-head .put-head .last .0) (at-put-head .put-head .result) (at-put-numbers .put-numbers .last .0))
     (at-put-head .put-head .result + at-put-numbers .put-numbers .result) (at-put-two .put-two .last .0))
     (at-put-head .put-head .result + at-put-numbers .put-numbers .result + at-put-two .put-two .result) (records start)
-    (encode (contentsOf (start .args .reg .now) (start .args .nodes .now)))
 third c =
     let at-put-two : tie.After-put-two = search in
     let at-slice-known3 : tie.After-slice-known3 = search in
     let start : tie.Start = search in
-    going-on (count start) (records start) (second at-slice-known3) (at-put-two .put-two .last .0) (at-put-two .put-two .result)
-    (at-put-two .put-two .ensures)
+    rest-lent (count start) (records start) (second at-slice-known3) (at-put-two .put-two .ensures)
 
 all : (c : tie.After-slice-known5) →
     let at-put-records : tie.After-put-records = search in
@@ -90,34 +87,33 @@ all : (c : tie.After-slice-known5) →
     let at-put-numbers : tie.After-put-numbers = search in
     let at-put-head : tie.After-put-head = search in
     let start : tie.Start = search in
-    SetDown (start .args .out .now)
+    Put (start .args .out .now) 0 (encode (contentsOf (start .args .reg .now) (start .args .nodes .now)))
+    (at-put-head .put-head .result + at-put-numbers .put-numbers .result + at-put-two .put-two .result +
+    at-put-records .put-records .result)
     (back (back (back (at-put-head .put-head .last .0) (at-put-head .put-head .result) (at-put-numbers .put-numbers .last .0))
     (at-put-head .put-head .result + at-put-numbers .put-numbers .result) (at-put-two .put-two .last .0))
     (at-put-head .put-head .result + at-put-numbers .put-numbers .result + at-put-two .put-two .result)
-    (at-put-records .put-records .last .0)) (encode (contentsOf (start .args .reg .now) (start .args .nodes .now)))
-    (at-put-head .put-head .result + at-put-numbers .put-numbers .result + at-put-two .put-two .result +
-    at-put-records .put-records .result)
+    (at-put-records .put-records .last .0))
 all c =
     let at-put-records : tie.After-put-records = search in
     let at-slice-known4 : tie.After-slice-known4 = search in
-    going-last (third at-slice-known4) (at-put-records .put-records .last .0) (at-put-records .put-records .result)
-    (at-put-records .put-records .ensures)
+    last-lent (third at-slice-known4) (at-put-records .put-records .ensures)
 
 put-head-requires : tie.Need-put-head-requires
 put-head-requires c κs =
     let start : tie.Start = search in
-    first-room (start .args .out .now) (headItems (start .args .sheet .parts)) (numbers start ++ (count start ++ records start))
+    first-fits (start .args .out .now) (headItems (start .args .sheet .parts)) (numbers start ++ (count start ++ records start))
     (encode (contentsOf (start .args .reg .now) (start .args .nodes .now))) (items start) (start .pre .1 .1 .1)
 
 sub-put-numbers : tie.Need-sub-put-numbers
 sub-put-numbers c =
     let start : tie.Start = search in
-    omega (arith, going-inside (numbers start) (count start ++ records start) (first c))
+    omega (arith, rest-inside (numbers start) (count start ++ records start) (first c))
 
 part-put-numbers-start : tie.Need-part-put-numbers-start
 part-put-numbers-start c =
     let start : tie.Start = search in
-    omega (arith, going-inside (numbers start) (count start ++ records start) (first c))
+    omega (arith, rest-inside (numbers start) (count start ++ records start) (first c))
 
 part-put-numbers-end : tie.Need-part-put-numbers-end
 part-put-numbers-end c = search needs
@@ -131,7 +127,7 @@ put-numbers-requires c κs =
     let e = c .wide16 .ensures .0 in (
       rw e (ready-short (start .args .reg .now) (start .pre .0) (start .args .sheet .parts) (start .pre .1 .1 .0 .parts)),
       rw e
-          (going-room (numbers start) (count start ++ records start) (first (c .before .before))),
+          (rest-fits (numbers start) (count start ++ records start) (first (c .before .before))),
     )
 
 add-count : tie.Need-add-count
@@ -140,20 +136,20 @@ add-count c =
     let start : tie.Start = search in
     omega (
       arith,
-      going-inside (numbers start) (count start ++ records start) (first at-slice-known2),
+      rest-inside (numbers start) (count start ++ records start) (first at-slice-known2),
       first at-slice-known2 .size,
-      numbers-down c .ends,
+      numbers-down c .behind,
     )
 
 sub-put-two : tie.Need-sub-put-two
 sub-put-two c =
     let start : tie.Start = search in
-    omega (arith, going-inside (count start) (records start) (second c))
+    omega (arith, rest-inside (count start) (records start) (second c))
 
 part-put-two-start : tie.Need-part-put-two-start
 part-put-two-start c =
     let start : tie.Start = search in
-    omega (arith, going-inside (count start) (records start) (second c))
+    omega (arith, rest-inside (count start) (records start) (second c))
 
 part-put-two-end : tie.Need-part-put-two-end
 part-put-two-end c = search needs
@@ -161,7 +157,7 @@ part-put-two-end c = search needs
 put-two-requires : tie.Need-put-two-requires
 put-two-requires c κs =
     let start : tie.Start = search in
-    omega (arith, two-length (start .args .sheet .kits), going-room (count start) (records start) (second (c .before)))
+    omega (arith, two-length (start .args .sheet .kits), rest-fits (count start) (records start) (second (c .before)))
 
 add-records : tie.Need-add-records
 add-records c =
@@ -169,16 +165,16 @@ add-records c =
     let start : tie.Start = search in
     omega (
       arith,
-      going-inside (count start) (records start) (second at-slice-known3),
+      rest-inside (count start) (records start) (second at-slice-known3),
       second at-slice-known3 .size,
-      c .before .before .put-two .ensures .ends,
+      c .before .before .put-two .ensures .behind,
     )
 
 sub-put-records : tie.Need-sub-put-records
-sub-put-records c = omega (arith, last-inside (third c))
+sub-put-records c = omega (arith, third c .room)
 
 part-put-records-start : tie.Need-part-put-records-start
-part-put-records-start c = omega (arith, last-inside (third c))
+part-put-records-start c = omega (arith, third c .room)
 
 part-put-records-end : tie.Need-part-put-records-end
 part-put-records-end c = search needs
@@ -186,21 +182,19 @@ part-put-records-end c = search needs
 put-records-requires : tie.Need-put-records-requires
 put-records-requires c κs =
     let start : tie.Start = search in
-    (start .pre .1 .0 .shape, last-room (third (c .before)))
+    (start .pre .1 .0 .shape, last-fits (third (c .before)))
 
 add-result : tie.Need-add-result
 add-result c =
     omega (
       arith,
-      last-inside (third (c .before .before .before .before)),
+      third (c .before .before .before .before) .room,
       third (c .before .before .before .before) .size,
-      c .before .before .put-records .ensures .ends,
+      c .before .before .put-records .ensures .behind,
     )
 
 same-length : tie.Need-same-length
-same-length c =
-    let start : tie.Start = search in
-    down-size (all c) (start .pre .1 .1 .1)
+same-length c = put-length (all c)
 
 returns : tie.Need-returns
 returns c = all c

@@ -5,16 +5,16 @@ use Prim.Native.Nat.{ℕ, _+_, _-_, _≤_}
 use native.Mathlib.Nat.{sub-zero}
 use native.Mathlib.Omega.{arith}
 use lib.ListN.{length}
+use Rattle.ground.proofs.Put.{Rest, rest-start, rest-same, rest-lent, rest-fits, rest-inside, rest-end}
 use Rattle.register.specs.Register.{numberAt}
 use Rattle.sheet.specs.Sheet.{numberItem}
 use Rattle.sheet_write.specs.Inner.{numbersFrom}
-use Rattle.sheet_write.proofs.Down.{Going, going-start, going-same, going-room, going-inside, going-on, going-end}
 use Rattle.sheet_write.proofs.Records.{numbers-step, numbers-end}
 use Rattle.sheet_write.proofs.put_numbers.Statement.{statement}
 use Rattle.sheet_write.proofs.put_numbers.Tie as tie
 
 abbrev Inv-loop : tie.InvT-loop
-Inv-loop out₀ reg n at₀ k₀ out at k = (k ≤ n) × Going out₀ out at (numbersFrom reg k (n - k)) (numbersFrom reg 0 n)
+Inv-loop out₀ reg n at₀ k₀ out at k = (k ≤ n) × Rest out₀ 0 (numbersFrom reg 0 n) out at (numbersFrom reg k (n - k))
 
 abbrev μ-loop : tie.MeasureT-loop
 μ-loop out₀ reg n at₀ k₀ out at k = n - k
@@ -32,11 +32,10 @@ module _ (c : tie.In-loop Inv-loop μ-loop) where
 
   going :
       let start : tie.Start Inv-loop μ-loop = search in
-      Going (start .args .out .now) (c .before .loop .out) (c .before .loop .at) (item ++ rest)
-      (numbersFrom (start .args .reg .now) 0 (start .args .n))
+      Rest (start .args .out .now) 0 (numbersFrom (start .args .reg .now) 0 (start .args .n)) (c .before .loop .out) (c .before .loop .at) (item ++ rest)
   going =
       let start : tie.Start Inv-loop μ-loop = search in
-      going-same (c .before .loop .inv .1)
+      rest-same (c .before .loop .inv .1)
       (numbers-step (start .args .reg .now) (start .args .n) (c .before .loop .k) (omega arith))
 
 ends : (c : tie.After-slice-known2 Inv-loop μ-loop) →
@@ -44,21 +43,21 @@ ends : (c : tie.After-slice-known2 Inv-loop μ-loop) →
     c .before .before .put-number .result ≡ length (item in-loop)
 ends c =
     let at-number-in : tie.After-number-in Inv-loop μ-loop = search in
-    rw (← at-number-in .number-in .ensures .0) (c .before .before .put-number .ensures .ends)
+    rw (← at-number-in .number-in .ensures .0) (omega (arith, c .before .before .put-number .ensures .behind))
 
 loop-holds : tie.Need-loop-holds Inv-loop μ-loop
 loop-holds c =
     let start : tie.Start Inv-loop μ-loop = search in (
       omega arith,
       rw sub-zero
-          (going-start (start .args .out .now) (numbersFrom (start .args .reg .now) 0 (start .args .n)) (start .pre .1)),
+          (rest-start (start .args .out .now) 0 (numbersFrom (start .args .reg .now) 0 (start .args .n)) (omega (arith, start .pre .1))),
     )
 
 sub-put-number : tie.Need-sub-put-number Inv-loop μ-loop
-sub-put-number c = omega (arith, going-inside (item c) (rest c) (going c))
+sub-put-number c = omega (arith, rest-inside (item c) (rest c) (going c))
 
 part-put-number-start : tie.Need-part-put-number-start Inv-loop μ-loop
-part-put-number-start c = omega (arith, going-inside (item c) (rest c) (going c))
+part-put-number-start c = omega (arith, rest-inside (item c) (rest c) (going c))
 
 part-put-number-end : tie.Need-part-put-number-end Inv-loop μ-loop
 part-put-number-end c = omega arith
@@ -71,13 +70,13 @@ number-in-requires c κs =
 put-number-requires : tie.Need-put-number-requires Inv-loop μ-loop
 put-number-requires c κs =
     let in-loop : tie.In-loop Inv-loop μ-loop = search in
-    (c .number-in .ensures .1, rw (c .number-in .ensures .0) (going-room (item in-loop) (rest in-loop) (going in-loop)))
+    (c .number-in .ensures .1, rw (c .number-in .ensures .0) (rest-fits (item in-loop) (rest in-loop) (going in-loop)))
 
 add-at : tie.Need-add-at Inv-loop μ-loop
 add-at c =
     let in-loop : tie.In-loop Inv-loop μ-loop = search in
     let at-loop : tie.At-loop Inv-loop μ-loop = search in
-    omega (arith, going-inside (item in-loop) (rest in-loop) (going in-loop), at-loop .loop .inv .1 .size, ends c)
+    omega (arith, rest-inside (item in-loop) (rest in-loop) (going in-loop), at-loop .loop .inv .1 .size, ends c)
 
 add-k : tie.Need-add-k Inv-loop μ-loop
 add-k c = omega arith
@@ -91,8 +90,8 @@ loop-again c =
     let at-number-in : tie.After-number-in Inv-loop μ-loop = search in
     let in-loop : tie.In-loop Inv-loop μ-loop = search in (
       omega arith,
-      going-on (item in-loop) (rest in-loop) (going in-loop) (at-put-number .put-number .last .0)
-          (at-put-number .put-number .result) (rw (← at-number-in .number-in .ensures .0) (at-put-number .put-number .ensures)),
+      rest-lent (item in-loop) (rest in-loop) (going in-loop) {last = at-put-number .put-number .last .0}
+          (rw (← at-number-in .number-in .ensures .0) (at-put-number .put-number .ensures)),
     )
 
 same-length : tie.Need-same-length Inv-loop μ-loop
@@ -101,8 +100,8 @@ same-length c = c .before .loop .inv .1 .size
 returns : tie.Need-returns Inv-loop μ-loop
 returns c =
     let start : tie.Start Inv-loop μ-loop = search in
-    going-end (going-same (c .before .loop .inv .1)
-    (numbers-end (start .args .reg .now) (start .args .n) (c .before .loop .k) (omega arith)))
+    rest-end (c .before .loop .inv .1)
+    (numbers-end (start .args .reg .now) (start .args .n) (c .before .loop .k) (omega arith))
 
 pub put-numbers-spec : {M : Type 1} → statement M
 put-numbers-spec =

@@ -1,12 +1,13 @@
 -- Without a tag there is no record; a node with a tag is used, so its row can be read.
 use mathlib.Core.Path.{_≡_, sym, _∙_}
 use native.Mathlib.Omega.{arith}
+use Rattle.ground.proofs.Put.{put-none, put-same, put-length}
 use Rattle.kits.specs.Inner.{unitsIn}
 use Rattle.nodes.specs.Inner.{Live}
 use Rattle.nodes.proofs.Held.{tagged-live}
 use Rattle.sheet.specs.Sheet.{placeBytes, recordItem}
-use Rattle.sheet_write.specs.Inner.{kitOf, ownRecord}
-use Rattle.sheet_write.proofs.Down.{down-none, down-same, down-size}
+use Rattle.sheet.specs.Inner.{kitOf}
+use Rattle.sheet_write.specs.Inner.{ownRecord}
 use Rattle.sheet_write.proofs.Records.{own-none, own-record}
 use Rattle.sheet_write.proofs.put_own.Statement.{statement}
 use Rattle.sheet_write.proofs.put_own.Tie as tie
@@ -35,8 +36,7 @@ tag-at-requires c κs = c .before .before .pre .1 .0
 returns : tie.Need-returns
 returns c =
     let start : tie.Start = search in
-    down-same (down-none (start .args .out .now))
-    (sym (own-none (start .args .nodes .now) (start .args .i) (sym (c .before .tag-at .ensures) ∙ c .if1 .taken)))
+    put-none (start .args .out .now) 0 ((own-none (start .args .nodes .now) (start .args .i) (sym (c .before .tag-at .ensures) ∙ c .if1 .taken)))
 
 row-at-requires : tie.Need-row-at-requires
 row-at-requires c κs =
@@ -49,15 +49,12 @@ put-kit-requires c κs =
     (rw (c .row-at .ensures .0) (c .row-at .ensures .1), rw (own c) (start .pre .1 .1))
 
 same-length : tie.Need-same-length
-same-length c =
-    let at-row-at : tie.After-row-at = search in
-    let start : tie.Start = search in
-    down-size (c .before .before .put-kit .ensures) (rw (own at-row-at) (start .pre .1 .1))
+same-length c = search put-length
 
 returns-2 : tie.Need-returns-2
 returns-2 c =
     let at-row-at : tie.After-row-at = search in
-    down-same (c .before .before .put-kit .ensures) (own at-row-at)
+    put-same (c .before .before .put-kit .ensures) (own at-row-at)
 
 pub put-own-spec : {M : Type 1} → statement M
 put-own-spec =

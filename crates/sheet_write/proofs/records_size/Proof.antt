@@ -3,8 +3,9 @@ use mathlib.Core.Path.{_≡_, ap}
 use Prim.Native.Nat.{_+_, _-_, _*_, _≤_}
 use native.Mathlib.Omega.{arith}
 use lib.ListN.{length, length-append}
+use Rattle.sheet.specs.Inner.{mostRecord}
 use Rattle.ground.specs.Lists.{from}
-use Rattle.nodes.specs.Nodes.{size, nodesOf}
+use Rattle.nodes.specs.Nodes.{size, nodesOf, mostNodes}
 use Rattle.nodes.proofs.Fields.{from-root}
 use Rattle.sheet_write.specs.Inner.{ownRecord, recordsAt}
 use Rattle.sheet_write.proofs.Records.{records-step, records-end}
@@ -13,8 +14,8 @@ use Rattle.sheet_write.proofs.records_size.Tie as tie
 
 abbrev Inv-loop : tie.InvT-loop
 Inv-loop nodes n total₀ i₀ total i =
-    (n ≡ size nodes) × (n ≤ 4096) × (i ≤ n)
-    × (total + length (recordsAt nodes (from i (n - i))) ≡ length (recordsAt nodes (nodesOf nodes))) × (total ≤ 131 * i)
+    (n ≡ size nodes) × (n ≤ mostNodes) × (i ≤ n)
+    × (total + length (recordsAt nodes (from i (n - i))) ≡ length (recordsAt nodes (nodesOf nodes))) × (total ≤ mostRecord * i)
 
 abbrev μ-loop : tie.MeasureT-loop
 μ-loop nodes n total₀ i₀ total i = n - i

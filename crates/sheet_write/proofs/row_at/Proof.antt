@@ -28,7 +28,7 @@ abbrev made : ℕ → List ℕ → Row
 made n ps = record { places = ps; len = n }
 
 depth-at-requires : tie.Need-depth-at-requires Inv-loop μ-loop
-depth-at-requires c κs = node-inside (c .before .args .nodes .now) (c .before .pre .0) (c .before .args .i) (c .before .pre .1)
+depth-at-requires c κs = search node-inside
 
 loop-holds : tie.Need-loop-holds Inv-loop μ-loop
 loop-holds c =
@@ -37,16 +37,15 @@ loop-holds c =
       c .depth-at .ensures .0 ∙ node-deep (start .args .nodes .now) (start .pre .0) (start .args .i) (start .pre .1),
       start .pre .1,
       c .depth-at .ensures .0,
-      laid-zeros (nodeRow (start .args .nodes .now) (start .args .i)),
+      laid-zeros (nodeRow (start .args .nodes .now) (start .args .i))
+          (node-short (start .args .nodes .now) (start .pre .0) (start .args .i) (start .pre .1)),
     )
 
 sub-at : tie.Need-sub-at Inv-loop μ-loop
 sub-at c = omega arith
 
 label-at-requires : tie.Need-label-at-requires Inv-loop μ-loop
-label-at-requires c κs =
-    let start : tie.Start Inv-loop μ-loop = search in
-    node-inside (start .args .nodes .now) (start .pre .0) (c .before .loop .node) (c .before .loop .inv .2)
+label-at-requires c κs = search node-inside
 
 mul-row : tie.Need-mul-row Inv-loop μ-loop
 mul-row c =
@@ -75,10 +74,7 @@ element-write-row c =
     )
 
 parent-at-requires : tie.Need-parent-at-requires Inv-loop μ-loop
-parent-at-requires c κs =
-    let at-loop : tie.At-loop Inv-loop μ-loop = search in
-    let start : tie.Start Inv-loop μ-loop = search in
-    node-inside (start .args .nodes .now) (start .pre .0) (at-loop .loop .node) (at-loop .loop .inv .2)
+parent-at-requires c κs = search node-inside
 
 loop-less : tie.Need-loop-less Inv-loop μ-loop
 loop-less c = omega arith

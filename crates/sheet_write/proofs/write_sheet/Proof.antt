@@ -3,10 +3,10 @@ use mathlib.Core.Path.{_≡_, sym, _∙_, refl}
 use Prim.Native.Nat.{_+_}
 use native.Mathlib.Omega.{arith}
 use lib.ListN.{length}
+use Rattle.ground.proofs.Put.{put-length}
 use Rattle.register.proofs.Sound.{ready-short}
 use Rattle.nodes.specs.Held.{held}
 use Rattle.sheet.specs.Sheet.{encode, contentsOf}
-use Rattle.sheet_write.proofs.Down.{down-size}
 use Rattle.sheet_write.proofs.Whole.{sheet-size, held-many, writing-12, writing-done}
 use Rattle.sheet_write.proofs.write_sheet.Statement.{statement}
 use Rattle.sheet_write.proofs.write_sheet.Tie as tie
@@ -51,8 +51,7 @@ records-size-requires c κs =
     start .pre .1 .shape
 
 add-need-3 : tie.Need-add-need-3
-add-need-3 c =
-    omega (arith, c .records-size .ensures .1, c .before .numbers-size .ensures .1, c .before .before .count-parts .ensures .1)
+add-need-3 c = omega arith
 
 returns : tie.Need-returns
 returns c =
@@ -61,9 +60,7 @@ returns c =
     (c .if1 .taken)
 
 cast-new : tie.Need-cast-new
-cast-new c =
-    let at-count-parts : tie.After-count-parts = search in
-    omega (arith, at-count-parts .count-parts .ensures .1)
+cast-new c = omega arith
 
 count-kits-requires : tie.Need-count-kits-requires
 count-kits-requires c κs =
@@ -98,7 +95,7 @@ same-length : tie.Need-same-length
 same-length c =
     let else1 : tie.Else1 = search in
     let at-records-size : tie.After-records-size = search in
-    down-size (c .before .before .put-items .ensures) (omega (arith, need at-records-size, else1 .if1 .left))
+    put-length (c .before .before .put-items .ensures)
 
 returns-2 : tie.Need-returns-2
 returns-2 c =

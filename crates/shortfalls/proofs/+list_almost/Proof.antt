@@ -144,7 +144,7 @@ module _ (t : ℕ) where
       let h = to-child (v at-label-at) (at-pass .pass .ensures) (else2 .if2 .left) (c .child-at .ensures .0) in
       let many = room (v at-label-at) (at-pass .pass .ensures) (else2 .if2 .left) (c .child-at .ensures .0) refl
       (at-tag-at .tag-at .ensures) in
-      (h .0, (h .1, omega (arith, start .pre .1 .1, at-put-both .put-both .ensures .one .ends, many)))
+      (h .0, (h .1, omega (arith, start .pre .1 .1, at-put-both .put-both .ensures .one .behind, many)))
 
   list-almost-requires-3 : lts.Need-list-almost-requires-3 (R t) (At t) own.Post
   list-almost-requires-3 c κs =
@@ -162,7 +162,7 @@ module _ (t : ℕ) where
       (at-child-at .child-at .result) in
       let many = room (v at-label-at) (at-pass .pass .ensures) (else2 .if2 .left) (at-child-at .child-at .ensures .0)
       (at-next-at .next-at .ensures .0) (at-tag-at .tag-at .ensures) in
-      let own = at-put-both .put-both .ensures .one .ends in (
+      let own = at-put-both .put-both .ensures .one .behind in (
         h .0,
         (
           h .1,
@@ -170,7 +170,7 @@ module _ (t : ℕ) where
             arith,
             start .pre .1 .1,
             own,
-            at-list-almost2 .list-almost2 .ensures .one .ends,
+            at-list-almost2 .list-almost2 .ensures .one .behind,
             length-map below
                 (tag (start .args .nodes .now)),
             many,
