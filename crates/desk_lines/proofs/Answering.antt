@@ -19,6 +19,7 @@ use Rattle.register.specs.Calls.{registering}
 use Rattle.register.proofs.Laws.{sound-after-registering, length-after-registering}
 use Rattle.questions.specs.Questions.{isWithin, isContaining}
 use Rattle.ground.specs.Tables.{Tables, tables}
+use Rattle.catalogue.specs.Demands.{Question}
 use Rattle.catalogue.specs.Calls.{onRegister, inserting, finding, deleting, anyKit, allKits, writing}
 use Rattle.answers.specs.Answers.{reply}
 use Rattle.answers.specs.declared.Answer.{Answer}
@@ -77,15 +78,10 @@ promised-inside : (p : Plan (List ℕ)) (o : List ℕ) (a : Reply) (m : List ℕ
     setDownBy a ≤ length m
 promised-inside p o a m h q = rw (q .answers, q .lent) h
 
-pub within-inside : (l : List ℕ) (T : Tables) (o : List ℕ) (a : Reply) (m : List ℕ) → Promise (allKits isWithin l T o) o a m →
-    setDownBy a ≤ length m
+pub listed-inside : (question : Question) (l : List ℕ) (T : Tables) (o : List ℕ) (a : Reply) (m : List ℕ) →
+    Promise (allKits question l T o) o a m → setDownBy a ≤ length m
 unfolding allKits
-within-inside l T o a m q = promised-inside _ o a m (set-down-inside _ _ o) q
-
-pub containing-inside : (l : List ℕ) (T : Tables) (o : List ℕ) (a : Reply) (m : List ℕ) → Promise (allKits isContaining l T o) o a m →
-    setDownBy a ≤ length m
-unfolding allKits
-containing-inside l T o a m q = promised-inside _ o a m (set-down-inside _ _ o) q
+listed-inside question l T o a m q = promised-inside _ o a m (set-down-inside _ _ o) q
 
 pub written-inside : (T : Tables) (o : List ℕ) (a : Reply) (m : List ℕ) → Promise (writing T o) o a m → setDownBy a ≤ length m
 unfolding writing
@@ -118,13 +114,9 @@ finding-keeps : (l : List ℕ) (T : Tables) (a : Reply) → a ≡ answer (findin
 unfolding finding
 finding-keeps l T a f = kept-promise _ T a refl f
 
-within-keeps : (l : List ℕ) (T : Tables) (a : Reply) → a ≡ answer (anyKit isWithin l T) → Promise (anyKit isWithin l T) T a T
+any-keeps : (question : Question) (l : List ℕ) (T : Tables) (a : Reply) → a ≡ answer (anyKit question l T) → Promise (anyKit question l T) T a T
 unfolding anyKit
-within-keeps l T a f = kept-promise _ T a refl f
-
-containing-keeps : (l : List ℕ) (T : Tables) (a : Reply) → a ≡ answer (anyKit isContaining l T) → Promise (anyKit isContaining l T) T a T
-unfolding anyKit
-containing-keeps l T a f = kept-promise _ T a refl f
+any-keeps question l T a f = kept-promise _ T a refl f
 
 -- a registration, seen from both tables
 on-register : (b : Reply) (R M N : List ℕ) → leaves b (tables R N) (tables M N) ≡ tables (leaves b R M) N
@@ -166,13 +158,13 @@ module _ (x t : ℕ) (l : List ℕ) (T : Tables) (a : Reply) where
         unfolding callOf
         call-within e f =
             rw (ne-eqb x letter.inserts n1, ne-eqb x letter.finds n2, ne-eqb x letter.deletes n3, eq-eqb x letter.anyWithin e)
-            (within-keeps l T a f)
+            (any-keeps isWithin l T a f)
 
         pub call-containing : (x ≡ letter.anyWithin → ⊥) → a ≡ answer (anyKit isContaining l T) → Promise (callOf x t l T) T a T
         unfolding callOf
         call-containing n4 f =
             rw (ne-eqb x letter.inserts n1, ne-eqb x letter.finds n2, ne-eqb x letter.deletes n3, ne-eqb x letter.anyWithin n4)
-            (containing-keeps l T a f)
+            (any-keeps isContaining l T a f)
 
 -- a list that was read, n words of it, or a lookup that was refused
 module _ (R l : List ℕ) (from : ℕ) (a : Reply) (out : List ℕ) (d : ReadAs R l from a out) (b : Bool) (e : b ≡ isRefused a) where

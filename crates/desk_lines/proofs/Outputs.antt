@@ -81,7 +81,8 @@ module _ {old new : List ℕ} {r : ℕ} (p : Parsed) (o s : List ℕ) (T : Table
 
 -- two outcomes that meet the promise of a line are one
 pub answer-line-pinned : (l o s old : List ℕ) (T : Tables) (r r′ : ℕ) (new new′ : List ℕ) (U U′ : Tables) (p p′ t t′ : List ℕ)
-    → Answers (atDesk (parsed l) o s T) old r new U → Answers (atDesk (parsed l) o s T) old r′ new′ U′ → Outputs (parsed l) o s T p t → Outputs (parsed l) o s T p′ t′
+    → Answers (atDesk (parsed l) o s T) old r new U → Answers (atDesk (parsed l) o s T) old r′ new′ U′
+    → Outputs (parsed l) o s T p t → Outputs (parsed l) o s T p′ t′
     → (r ≡ r′) × (new ≡ new′) × (U ≡ U′) × (p ≡ p′) × (t ≡ t′)
 answer-line-pinned l o s old T r r′ new new′ U U′ p p′ t t′ a b c d = (
   a .reply .put .behind ∙ sym (b .reply .put .behind),

@@ -53,7 +53,8 @@ unfolding listOf
 lines-few [] = omega arith
 lines-few (x ∷ us) = omega (arith, few-from x 1 us)
 
-pub record-size : (r : List ℕ) (t : ℕ) → GoodRow mostPlace r → length (recordItem placeBytes (kitOf r t)) ≡ linesAt + length (listOf r) / lineWords * lineBytes placeBytes
+pub record-size : (r : List ℕ) (t : ℕ) → GoodRow mostPlace r →
+    length (recordItem placeBytes (kitOf r t)) ≡ linesAt + length (listOf r) / lineWords * lineBytes placeBytes
 unfolding recordItem inBytes
 record-size r t g = omega (arith, items-length (good-lines mostPlace (listOf r) (row-list-good mostPlace r g)) placeBytes)
 

@@ -104,7 +104,8 @@ behind-all (item ns bs o) = go (one (bytes twoBytes) anyTwo bs o)
 
 -- The head of a sheet
 module _ (s : List ℕ) where
-  mark-item : markBytes ≤ length s → eqList mark (take markBytes s) ≡ true → one (bytes markBytes) (eqList mark) s 0 ≡ item (take markBytes s) (drop versionAt s) versionAt
+  mark-item : markBytes ≤ length s → eqList mark (take markBytes s) ≡ true →
+      one (bytes markBytes) (eqList mark) s 0 ≡ item (take markBytes s) (drop versionAt s) versionAt
   unfolding bytes
   mark-item h e = one-ok (bytes markBytes) (eqList mark) s 0 h e
 

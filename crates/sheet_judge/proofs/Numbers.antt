@@ -40,7 +40,8 @@ module _ (s : List ℕ) (at : ℕ) where
     abbrev this : Item (List ℕ)
     this = one numberSize (newNumber seen) (drop at s) at
 
-    new-here : newNumber seen (take (numberSize (drop at s)) (drop at s)) ≡ every (goodNumber (numberHere s at) ∷ not (anyb (eqList (numberHere s at)) seen) ∷ [])
+    new-here :
+        newNumber seen (take (numberSize (drop at s)) (drop at s)) ≡ every (goodNumber (numberHere s at) ∷ not (anyb (eqList (numberHere s at)) seen) ∷ [])
     unfolding newNumber
     new-here = rw (read-here s at)
 

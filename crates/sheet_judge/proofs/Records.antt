@@ -47,7 +47,9 @@ module _ (s : List ℕ) (at : ℕ) where
       abbrev U : List ℕ
       U = units (listAt s at)
 
-      new-is : newKit placeBytes parts seen (recordAt s at) ≡ every (not (isZero T) ∷ not (anyb (hasTag T) seen) ∷ goodList parts (listAt s at) ∷ leb (length U) mostUnits ∷ follows U seen ∷ [])
+      new-is :
+          newKit placeBytes parts seen (recordAt s at) ≡ every
+          (not (isZero T) ∷ not (anyb (hasTag T) seen) ∷ goodList parts (listAt s at) ∷ leb (length U) mostUnits ∷ follows U seen ∷ [])
       unfolding newKit
       new-is = rw (tag-is s at h, row-is s at h, list-is s at h)
 

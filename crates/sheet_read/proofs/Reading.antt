@@ -134,7 +134,8 @@ module _ (s : List ℕ) (b : Bytes s) (T : Tables) (register-fits : registerLeng
   unfolding memory readingInto
   reading-leaves = leaves-done (answer (readingInto s T)) v T (filling (said (decode s)) T) e
 
-  pub reading-in-order : memory (readingInto s T) T ≡ tables (registerAll (zeroed (T .register)) (said (decode s) .parts)) (insertAll (zeroed (T .nodes)) (said (decode s) .kits))
+  pub reading-in-order :
+      memory (readingInto s T) T ≡ tables (registerAll (zeroed (T .register)) (said (decode s) .parts)) (insertAll (zeroed (T .nodes)) (said (decode s) .kits))
   reading-in-order = reading-leaves ∙ filled-in-order c fits T room
 
   -- the parts and kits are those of the sheet, and the tables are sound

@@ -2,7 +2,8 @@
 use native.Mathlib.Omega.{arith}
 use Rattle.ground.specs.Tables.{tables}
 use Rattle.answers.specs.Answers.{reply}
-use Rattle.desk_lines.proofs.Answering.{within-inside, containing-inside}
+use Rattle.questions.specs.Questions.{isWithin, isContaining}
+use Rattle.desk_lines.proofs.Answering.{listed-inside}
 use Rattle.desk_lines.proofs.Outputs.{asked-all-within, asked-all-containing, asked-call}
 use borrow.Author.Needs.{needs}
 use Rattle.desk_lines.proofs.ask.Statement.{statement}
@@ -17,7 +18,7 @@ put-listed-requires c κs =
     let start : tie.Start = search in
     let a = start .args in (
       omega (arith, at-all-within .all-within .kept .1 .1 .1 .0),
-      within-inside (a .list .now)
+      listed-inside isWithin (a .list .now)
           (tables (a .reg .now) (a .nodes .now)) (a .places .now) _ _ (at-all-within .all-within .ensures),
     )
 
@@ -50,7 +51,7 @@ put-listed-requires-2 c κs =
     let start : tie.Start = search in
     let a = start .args in (
       omega (arith, at-all-containing .all-containing .kept .1 .1 .1 .0),
-      containing-inside (a .list .now)
+      listed-inside isContaining (a .list .now)
           (tables (a .reg .now) (a .nodes .now)) (a .places .now) _ _ (at-all-containing .all-containing .ensures),
     )
 

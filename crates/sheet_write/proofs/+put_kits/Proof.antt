@@ -139,7 +139,8 @@ module _ (t : ℕ) where
   returns : lts.Need-returns (R t) (At t) own.Post
   returns c =
       let start : lts.Start (R t) (At t) own.Post = search in
-      put-none (start .args .out .now) 0 ((ap (recordsFrom (start .args .nodes .now)) (c .if1 .taken) ∙ from-none (start .args .nodes .now) (start .pre .1 .0)))
+      put-none (start .args .out .now) 0
+      (ap (recordsFrom (start .args .nodes .now)) (c .if1 .taken) ∙ from-none (start .args .nodes .now) (start .pre .1 .0))
 
   put-own-requires : lts.Need-put-own-requires (R t) (At t) own.Post
   put-own-requires c κs =
