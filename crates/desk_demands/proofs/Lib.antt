@@ -1,0 +1,2 @@
+-- The demands at the desk.
+pub mod Session
