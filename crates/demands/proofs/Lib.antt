@@ -6,9 +6,10 @@ pub mod Brought
 pub mod Sizes
 pub mod Answers
 pub mod Almost
-pub mod Sheets
 pub mod Counts
+pub mod Sheets
 pub mod Told
+pub mod Damaged
 pub mod Offsets
 pub mod Values
 pub mod ShortCases

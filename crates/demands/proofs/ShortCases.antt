@@ -22,7 +22,7 @@ use Rattle.sheet.specs.Bytes.{inBytes}
 use Rattle.sheet.specs.Sheet.{numberItem, numberItems, lineItems, recordItem, recordItems, encode}
 use Rattle.tables.specs.Lent.{lengths, lentBoth, lentList}
 use Rattle.catalogue.specs.Calls.{planOf, inserting, deleting, anyKit, allKits, almostKits, writing}
-use Rattle.catalogue.specs.Demands.{run, log, begun, tablesOf}
+use Rattle.demands.specs.Model.{run, log, begun, tablesOf}
 use Rattle.demands.specs.ShortCases.{insertRows, holding, listedBy, askedAlmost, struck, ShortCases, AlmostCases, entries, later, desk, replies, DeskExample}
 
 -- opens every definition

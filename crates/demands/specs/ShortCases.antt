@@ -10,7 +10,8 @@ use Rattle.nodes.specs.Nodes.{usedNodes}
 use Rattle.questions.specs.Questions.{isWithin, isContaining}
 use Rattle.ground.specs.Tables.{Tables}
 use Rattle.catalogue.specs.Calls.{Call, registerPart, insertKit, deleteKit, anyWithin, anyContaining, allKits, almostKits, deleting, writing}
-use Rattle.catalogue.specs.Demands.{Question, log, tablesOf}
+use Rattle.catalogue.specs.Calls.{Question}
+use Rattle.demands.specs.Model.{log, tablesOf}
 
 -- kits inserted by their units, with the tags t, t + 1, ..
 unfoldable pub insertRows : ℕ → List (List ℕ) → List Call
