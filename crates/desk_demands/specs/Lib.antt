@@ -1,3 +1,5 @@
--- What the desk answers to a whole input, and document 01's own session.
+-- The desk's input as calls, the demands at the desk, and document 01's own session.
 pub mod Text
+pub mod Made
+pub mod Demands
 pub mod Session

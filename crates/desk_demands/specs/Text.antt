@@ -7,7 +7,7 @@ use lib.ListN.{replicate}
 use Rattle.ground.specs.Tables.{Tables}
 use Rattle.desk_text.specs.Lines.{lineFeed, parsed}
 use Rattle.desk_input.specs.Lines.{linesOf}
-use Rattle.desk_lines.specs.Sizes.{deskSlots, deskNodes, outputPlaces, sheetBytes, emptyDesk}
+use Rattle.desk_lines.specs.Sizes.{outputPlaces, sheetBytes, emptyDesk}
 use Rattle.desk_lines.specs.Desk.{atDesk}
 
 -- the bytes of a text: every character here is one byte
@@ -29,6 +29,9 @@ repliesTo (l ∷ ls) o s T = let a = atDesk (parsed l) o s T in a .says ++ repli
 unfoldable pub replyText : ℕ → ℕ → ℕ → ℕ → List ℕ → List ℕ
 replyText slots nodes places sheet input = repliesTo (linesOf input) (replicate places 0) (replicate sheet 0) (emptyDesk slots nodes)
 
--- "It reads standard input with 255 slots, 2,048 nodes, 2,048 output places and 8,192 sheet bytes."
-unfoldable pub deskReplies : List ℕ → List ℕ
-deskReplies input = replyText deskSlots deskNodes outputPlaces sheetBytes input
+-- "2,048 output places and 8,192 sheet bytes": what they hold never shows in a reply (`OutputsNeverShow`)
+unfoldable pub lentPlaces : List ℕ
+lentPlaces = replicate outputPlaces 0
+
+unfoldable pub lentSheet : List ℕ
+lentSheet = replicate sheetBytes 0
