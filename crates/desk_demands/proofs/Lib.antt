@@ -1,4 +1,5 @@
 -- The demands at the desk.
-pub mod Session
 pub mod Made
+pub mod Outputs
 pub mod Said
+pub mod Session

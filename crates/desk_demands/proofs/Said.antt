@@ -4,14 +4,13 @@ use mathlib.Core.Bool.{Bool, true, false, cond, not, _||_}
 use mathlib.Core.List.{List, [], _∷_, _++_, map}
 use Prim.Native.Nat.{ℕ, suc, _+_, _≤_, _<_, _/_, _%_}
 use native.Mathlib.Omega.{arith}
-use lib.ListN.{length, length-map}
+use lib.ListN.{length, getD, length-map}
 use lib.Dec.{eqb, leb, ltb}
 use borrow.Author.Tests.{eqb-true, ltb-true}
 use Rattle.ground.specs.Lists.{anyb, eqList, from, isZero, keep}
 use Rattle.ground.specs.Calls.{Case, given, Plan, Reply, done, refused, numberOf, valueOf, decide, answer, setDown}
 use Rattle.ground.specs.Tables.{Tables}
 use Rattle.ground.proofs.Laws.{by-cond, length-from}
-use Rattle.ground.proofs.Calls.{done-passes}
 use Rattle.register.specs.Register.{slotCount, placeFrom, placeIn}
 use Rattle.register.specs.Calls.{lookingUp}
 use Rattle.kits.specs.Kits.{units, lineFaults, linesFaults, listFaults}
@@ -26,12 +25,18 @@ use Rattle.catalogue.specs.Calls.{Call, Question, registerPart, lookUp, insertK
 use Rattle.catalogue.specs.Calls.{allContaining, writeSheet, planOf, allKits, inserting, finding, deleting, anyKit}
 use Rattle.demands.specs.Model.{answering, listingOf}
 use Rattle.demands.specs.Demand1.{told}
-use Rattle.demands.proofs.Brought.{Brought}
+use Rattle.demands.proofs.Brought.{Brought, brought}
+use Rattle.demands.proofs.Sizes.{sizes}
 use Rattle.demands.proofs.Told.{call-told}
 use Rattle.desk_lines.specs.Sizes.{deskSlots, deskNodes, outputPlaces}
 use Rattle.desk_text.specs.Letters as letter
 use Rattle.desk_text.specs.Amounts.{amountOf}
+use Rattle.desk_text.specs.Lines.{Parsed, none, line, parsed}
 use Rattle.desk_lists.specs.Typed.{Typed, typed, stopped, inFrontOf, lookedUp}
+use Rattle.desk_lines.specs.Desk.{Answered, called, shown, registerLine, writeLine, withList, callOf, asked, askLine, atDesk}
+use Rattle.desk_demands.specs.Made.{deskOf}
+use Rattle.desk_demands.proofs.Made.{desk-is-catalogue}
+use Rattle.desk_demands.proofs.Outputs.{done-value}
 use Rattle.desk_demands.specs.Demands.{numbersOf, Said, other, reply, NeverSaid}
 
 -- a number is one of some
@@ -72,12 +77,6 @@ place-known k n [] h = omega arith
 place-known k n (p ∷ ps) h =
     by-cond (λ (x : ℕ). x < k + suc (length ps)) (eqList n p) k (placeFrom (suc k) n ps) (λ _. omega arith)
     (λ _. omega (arith, place-known (suc k) n ps (omega arith)))
-
--- the value of a reply that is done is the one decided
-done-value : (cs : List Case) (v p : ℕ) → decide cs v ≡ done p → p ≡ v
-unfolding decide
-done-value [] v p e = cc
-done-value (c ∷ cs) v p e = done-value cs v p (done-passes c cs v p e .1)
 
 -- what a typed list comes to: places that are known, or one of some numbers
 abbrev TypedAmong : List ℕ → ℕ → Typed → Type 0
@@ -191,3 +190,94 @@ module _ {T : Tables} {m : Contents} (b : Brought T m) (hs : slotCount (T .regis
           told-among ns (insertKit l t)
           (decided-among ns _ _ a0
           (also (λ _. a8) (every-append faults-among (also (λ _. a7) (also (λ _. a9) (also (λ _. a10) (also (λ _. a12) no-more)))))))
+
+------------------------------------------------------------------------
+-- Lines
+
+abbrev SaidBy : Answered → Type 0
+SaidBy a = Said (a .says)
+
+-- the numbers of a letter that takes a list
+module _ (x : ℕ) (nr : eqb x letter.registers ≡ false) (nw : eqb x letter.writes ≡ false) where
+  list-number : (n : ℕ) → Among (0 ∷ 3 ∷ 4 ∷ 6 ∷ 11 ∷ []) n → Among (numbersOf letter.inserts) n → Among (numbersOf x) n
+  unfolding numbersOf
+  list-number n f g = rw (nr, nw) (by-cond (λ (ns : List ℕ). Among ns n) (eqb x letter.inserts) _ _ (λ _. g) (λ _. f))
+
+  insert-number : eqb x letter.inserts ≡ true → (n : ℕ) → Among (numbersOf letter.inserts) n → Among (numbersOf x) n
+  insert-number h n g = subst (λ (y : ℕ). Among (numbersOf y) n) (sym (eqb-true x letter.inserts h)) g
+
+module _ {T : Tables} {m : Contents} (b : Brought T m) (hs : slotCount (T .register) ≡ deskSlots) (hr : size (T .nodes) ≡ deskNodes)
+    (o : List ℕ) (room : outputPlaces ≤ length o) where
+  module _ (x t : ℕ) (nr : eqb x letter.registers ≡ false) (nw : eqb x letter.writes ≡ false) where
+    a0 : Among (numbersOf x) 0
+    unfolding numbersOf anyb
+    a0 = list-number x nr nw 0 refl refl
+
+    a3 : Among (numbersOf x) 3
+    unfolding numbersOf anyb
+    a3 = list-number x nr nw 3 refl refl
+
+    a4 : Among (numbersOf x) 4
+    unfolding numbersOf anyb
+    a4 = list-number x nr nw 4 refl refl
+
+    a6 : Among (numbersOf x) 6
+    unfolding numbersOf anyb
+    a6 = list-number x nr nw 6 refl refl
+
+    a11 : Among (numbersOf x) 11
+    unfolding numbersOf anyb
+    a11 = list-number x nr nw 11 refl refl
+
+    -- a call with a list of known places
+    module _ (l : List ℕ) (k : Known (length (m .parts)) l) where
+      inserted : eqb x letter.inserts ≡ true → Among (numbersOf x) (numberOf (answer (inserting l t T)))
+      unfolding numbersOf anyb planOf
+      inserted h =
+          let f = insert-number x nr nw h in
+          insert-among b hs hr (numbersOf x) a0 a3 a4 a6 a11 l k t (f 7 refl) (f 8 refl) (f 9 refl) (f 10 refl) (f 12 refl)
+
+      called-among : Among (numbersOf x) (numberOf (answer (callOf x t l T)))
+      unfolding callOf planOf
+      called-among =
+          let P : Plan Tables → Type 0 = λ p. Among (numbersOf x) (numberOf (answer p)) in
+          by-cond P (eqb x letter.inserts) (inserting l t T) _ inserted (λ _.
+          by-cond P (eqb x letter.finds) (finding l T) _ (λ _. find-among b hs hr (numbersOf x) a0 a3 a4 a6 a11 l k) (λ _.
+          by-cond P (eqb x letter.deletes) (deleting l T) _ (λ _. delete-among b hs hr (numbersOf x) a0 a3 a4 a6 a11 l k) (λ _.
+          by-cond P (eqb x letter.anyWithin) (anyKit isWithin l T) (anyKit isContaining l T)
+          (λ _. within-among b hs hr (numbersOf x) a0 a3 a4 a6 a11 l k)
+          (λ _. containing-among b hs hr (numbersOf x) a0 a3 a4 a6 a11 l k))))
+
+      asked-said : SaidBy (asked x t o T l)
+      unfolding asked called shown planOf answer
+      asked-said =
+          by-cond SaidBy (eqb x letter.allWithin) _ _
+          (λ _. reply x _ _ _ (all-within-among b hs hr (numbersOf x) a0 a3 a4 a6 a11 l k o room)) (λ _.
+          by-cond SaidBy (eqb x letter.allContaining) _ _
+          (λ _. reply x _ _ _ (all-containing-among b hs hr (numbersOf x) a0 a3 a4 a6 a11 l k o room))
+          (λ _. reply x _ _ _ called-among))
+
+    with-said : (r : Typed) → TypedAmong (numbersOf x) (length (m .parts)) r → SaidBy (withList x T (asked x t o T) r)
+    unfolding withList
+    with-said (typed l) k = asked-said l k
+    with-said (stopped n v) g = reply x n v [] g
+
+    ask-said : (fs : List (List ℕ)) → SaidBy (askLine x t fs o T)
+    unfolding askLine
+    ask-said fs = with-said (lookedUp (T .register) fs) (typed-among b hs hr (numbersOf x) a0 a3 a4 a6 a11 fs)
+
+  line-said : (p : Parsed) (s : List ℕ) → SaidBy (atDesk p o s T)
+  unfolding atDesk registerLine writeLine called shown planOf answer
+  line-said none s = other
+  line-said (line x t fs) s =
+      by-cond SaidBy (eqb x letter.registers) _ _ (λ _. reply letter.registers _ _ _ (register-among b hs hr (getD fs 0 []))) (λ nr.
+      by-cond SaidBy (eqb x letter.writes) _ _ (λ _. reply letter.writes _ _ _ (write-among b hs hr s)) (λ nw.
+      ask-said x t nr nw fs))
+
+pub never-said : NeverSaid
+unfolding deskOf
+never-said input l o s room =
+    let d = desk-is-catalogue input in
+    let z = sizes (deskOf input) (d .1) in
+    subst (λ (T : Tables). SaidBy (atDesk (parsed l) o s T)) (sym (d .0))
+    (line-said (brought (deskOf input) (d .1)) (z .slots) (z .room) o room (parsed l) s)
