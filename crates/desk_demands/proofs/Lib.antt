@@ -1,5 +1,6 @@
 -- The demands at the desk.
 pub mod Made
 pub mod Outputs
+pub mod Told
 pub mod Said
 pub mod Session

@@ -36,10 +36,10 @@ last-passes (d ∷ cs) c v w e = last-passes cs c v w (done-passes d (cs ++ (c �
 
 -- the reply to a call that sets xs down
 module _ (x : ℕ) (print : List ℕ → List ℕ) (cs : List Case) (xs : List ℕ) where
-  unfoldable room : ℕ → Reply
+  unfoldable pub room : ℕ → Reply
   room n = decide (cs ++ (given (ltb n (length xs)) 12 (length xs) ∷ [])) (length xs)
 
-  unfoldable saidOf : Reply → List ℕ
+  unfoldable pub saidOf : Reply → List ℕ
   saidOf r = replyLine x (numberOf r) (valueOf r) (leaves r [] (print xs))
 
   all-shown : (o : List ℕ) (r : Reply) → room (length o) ≡ r →
@@ -53,7 +53,7 @@ module _ (x : ℕ) (print : List ℕ → List ℕ) (cs : List Case) (xs : List �
       ∙ take-append-seam xs _)
   all-shown o (refused n v) e = refl
 
-  shown-is : (o : List ℕ) → shown x print (setDown cs xs o) o ≡ saidOf (room (length o))
+  pub shown-is : (o : List ℕ) → shown x print (setDown cs xs o) o ≡ saidOf (room (length o))
   unfolding shown setDown answer memory room saidOf
   shown-is o =
       let r = room (length o) in

@@ -7,15 +7,22 @@ use Prim.Native.Nat.{ℕ, _≤_}
 use lib.ListN.{length}
 use lib.Dec.{eqb}
 use Rattle.ground.specs.Lists.{anyb}
+use Rattle.ground.specs.Calls.{numberOf, valueOf, leaves}
 use Rattle.ground.specs.Tables.{Tables}
-use Rattle.demands.specs.Model.{Allowed, tablesOf, entered}
+use Rattle.nodes.specs.Held.{tagsOf}
+use Rattle.questions.specs.Questions.{isWithin, isContaining}
+use Rattle.sheet.specs.Sheet.{Contents, encode}
+use Rattle.catalogue.specs.Calls.{Call, emptyBoth, registerPart, lookUp, showAt, insertKit, findKit, deleteKit, anyWithin, anyContaining}
+use Rattle.catalogue.specs.Calls.{allWithin, allContaining, allAlmost, writeSheet, readSheet}
+use Rattle.demands.specs.Model.{Allowed, tablesOf, entered, listedIn, answering}
+use Rattle.demands.specs.Demand1.{told}
 use Rattle.demands.specs.Demand3.{Writes, Agree}
 use Rattle.desk_text.specs.Letters as letter
-use Rattle.desk_text.specs.Lines.{Parsed, parsed}
-use Rattle.desk_replies.specs.Replies.{replyLine, otherLine}
-use Rattle.desk_lines.specs.Sizes.{outputPlaces}
-use Rattle.desk_lines.specs.Desk.{atDesk}
-use Rattle.desk_demands.specs.Made.{deskOf, tablesAfter}
+use Rattle.desk_text.specs.Lines.{Parsed, none, line, parsed}
+use Rattle.desk_replies.specs.Replies.{tagsText, replyLine, otherLine}
+use Rattle.desk_lines.specs.Sizes.{deskSlots, deskNodes, outputPlaces}
+use Rattle.desk_lines.specs.Desk.{sheetText, atDesk}
+use Rattle.desk_demands.specs.Made.{callsOfLine, deskOf, tablesAfter}
 
 -- After any input the desk has the tables of a catalogue that was begun empty and brought on by the calls that its lines make: whatever the
 -- demands say of such catalogues, they say of the desk. Proof: Made, `desk-is-catalogue`
@@ -29,7 +36,46 @@ DesksTell =
     (input input′ o p s t : List ℕ) → Writes (tablesAfter input) o s → Writes (tablesAfter input′) p t →
     (s ≡ t) ↔ Agree (entered (deskOf input)) (entered (deskOf input′))
 
--- DEMAND 1: the numbers that a reply may have, by its letter. 1 and 2 are not among them, since the desk's tables are never damaged; nor 5,
+-- DEMAND 1: every reply, in terms of the calls that the line makes and of what the accepted calls before it left, and never of a table.
+-- "then tags for b and s, or the sheet in capital hex for W": what a call of the desk shows behind its number and value
+unfoldable pub shownFor : Contents → Call → List ℕ
+shownFor m (allWithin l o) = tagsText (tagsOf (answering isWithin l m))
+shownFor m (allContaining l o) = tagsText (tagsOf (answering isContaining l m))
+shownFor m (writeSheet o) = sheetText (encode (listedIn m))
+shownFor m emptyBoth = []
+shownFor m (registerPart n) = []
+shownFor m (lookUp n) = []
+shownFor m (showAt p) = []
+shownFor m (insertKit l t) = []
+shownFor m (findKit l) = []
+shownFor m (deleteKit l) = []
+shownFor m (anyWithin l) = []
+shownFor m (anyContaining l) = []
+shownFor m (allAlmost d l o) = []
+shownFor m (readSheet s) = []
+
+-- "A reply line is letter, number, value", and what is shown "when done": the reply of a desk that has m to a call, with the letter x
+unfoldable pub toldLine : ℕ → Contents → Call → List ℕ
+toldLine x m c = let r = told deskSlots deskNodes m c in replyLine x (numberOf r) (valueOf r) (leaves r [] (shownFor m c))
+
+-- to a line that makes some calls: the last is the answer; "Other lines answer `?`"
+unfoldable pub toldOf : ℕ → Contents → List Call → List ℕ
+toldOf x m [] = otherLine
+toldOf x m (c ∷ []) = toldLine x m c
+toldOf x m (c ∷ d ∷ cs) = toldOf x m (d ∷ cs)
+
+abbrev pub letterOf : Parsed → ℕ
+letterOf none = 0
+letterOf (line x t fs) = x
+
+-- after any input, to any line, whatever outputs are lent. Proof: Told, `desk-told`
+abbrev pub DeskTold : Type 0
+DeskTold =
+    (input l o s : List ℕ) →
+    atDesk (parsed l) o s (tablesAfter input) .says
+    ≡ toldOf (letterOf (parsed l)) (entered (deskOf input)) (callsOfLine (parsed l) o s (tablesAfter input))
+
+-- The numbers that a reply may have, by its letter. 1 and 2 are not among them, since the desk's tables are never damaged; nor 5,
 -- since places are looked up; nor 13 and 14, whose calls it never makes; nor 12 for b and s, since 2,048 places are enough for 2,048 nodes.
 unfoldable pub numbersOf : ℕ → List ℕ
 numbersOf x =
