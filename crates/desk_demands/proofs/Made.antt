@@ -18,7 +18,7 @@ use Rattle.sheet.specs.Bytes.{Bytes}
 use Rattle.questions.specs.Questions.{isWithin, isContaining}
 use Rattle.catalogue.specs.Calls.{Call, emptyBoth, registerPart, lookUp, showAt, insertKit, findKit, deleteKit, anyWithin, anyContaining}
 use Rattle.catalogue.specs.Calls.{allWithin, allContaining, allAlmost, writeSheet, readSheet, planOf, inserting, finding, deleting, anyKit}
-use Rattle.demands.specs.Model.{run, Catalogue, Allowed, begun, tablesOf}
+use Rattle.demands.specs.Model.{run, Allowed, begun, tablesOf}
 use Rattle.demands.specs.Demand3.{Writes}
 use Rattle.demands.proofs.Sheets.{sheets-tell}
 use Rattle.desk_text.specs.Letters as letter
@@ -27,7 +27,7 @@ use Rattle.desk_text.specs.Lines.{longestLine, fieldsOf, filled, goodPairs, Par
 use Rattle.desk_text.specs.Lines.{behindLetter, lettered, parsed}
 use Rattle.desk_input.specs.Lines.{linesOf, answered}
 use Rattle.desk_lists.specs.Typed.{Typed, typed, stopped, lookedUp}
-use Rattle.desk_lines.specs.Sizes.{deskSlots, deskNodes, emptyDesk, begunDesk}
+use Rattle.desk_lines.specs.Sizes.{emptyDesk, begunDesk}
 use Rattle.desk_lines.specs.Desk.{Answered, called, registerLine, writeLine, withList, callOf, asked, askLine, atDesk, leftBy}
 use Rattle.desk_demands.specs.Text.{lentPlaces, lentSheet}
 use Rattle.desk_demands.specs.Made.{lookups, callWith, callBehind, callsOfLine, callsOf, deskOf}

@@ -1,14 +1,14 @@
 -- The numbers that the desk's replies have: those of the calls that its lines make, at tables that the desk's calls have left.
 use mathlib.Core.Path.{_≡_, refl, sym, ap, subst, _∙_}
-use mathlib.Core.Bool.{Bool, true, false, cond, not, _||_}
-use mathlib.Core.List.{List, [], _∷_, _++_, map}
-use Prim.Native.Nat.{ℕ, suc, _+_, _≤_, _<_, _/_, _%_}
+use mathlib.Core.Bool.{true, false}
+use mathlib.Core.List.{List, [], _∷_, map}
+use Prim.Native.Nat.{ℕ, suc, _+_, _≤_, _<_}
 use native.Mathlib.Omega.{arith}
 use lib.ListN.{length, getD, length-map}
-use lib.Dec.{eqb, leb, ltb}
+use lib.Dec.{eqb, ltb}
 use borrow.Author.Tests.{eqb-true, ltb-true}
-use Rattle.ground.specs.Lists.{anyb, eqList, from, isZero, keep}
-use Rattle.ground.specs.Calls.{Case, given, Plan, Reply, done, refused, numberOf, valueOf, decide, answer, setDown}
+use Rattle.ground.specs.Lists.{anyb, eqList, from, keep}
+use Rattle.ground.specs.Calls.{Case, Plan, Reply, done, refused, numberOf, decide, answer, setDown}
 use Rattle.ground.specs.Tables.{Tables}
 use Rattle.ground.proofs.Laws.{by-cond, length-from}
 use Rattle.register.specs.Register.{slotCount, placeFrom, placeIn}
@@ -22,7 +22,7 @@ use Rattle.sheet_write.proofs.Whole.{order-many}
 use Rattle.sheet.specs.Sheet.{Contents}
 use Rattle.questions.specs.Questions.{isWithin, isContaining}
 use Rattle.catalogue.specs.Calls.{Call, Question, registerPart, lookUp, insertKit, findKit, deleteKit, anyWithin, anyContaining, allWithin}
-use Rattle.catalogue.specs.Calls.{allContaining, writeSheet, planOf, allKits, inserting, finding, deleting, anyKit}
+use Rattle.catalogue.specs.Calls.{allContaining, writeSheet, planOf, inserting, finding, deleting, anyKit}
 use Rattle.demands.specs.Model.{answering, listingOf}
 use Rattle.demands.specs.Demand1.{told}
 use Rattle.demands.proofs.Brought.{Brought, brought}

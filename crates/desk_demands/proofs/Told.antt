@@ -3,12 +3,11 @@ use mathlib.Core.Path.{_≡_, refl, sym, ap, subst, _∙_}
 use mathlib.Core.Bool.{Bool, true, false, cond}
 use mathlib.Core.List.{List, [], _∷_, _++_, append-nil}
 use Prim.Native.Nat.{ℕ}
-use lib.ListN.{length, getD}
-use lib.Dec.{eqb, ltb}
+use lib.ListN.{getD}
+use lib.Dec.{eqb}
 use borrow.Author.Tests.{eqb-true}
 use Rattle.ground.specs.Calls.{Plan, Reply, done, refused, numberOf, valueOf, answer, leaves, setDown}
 use Rattle.ground.specs.Tables.{Tables}
-use Rattle.ground.proofs.Laws.{by-cond}
 use Rattle.register.specs.Register.{slotCount}
 use Rattle.register.specs.Calls.{lookingUp}
 use Rattle.nodes.specs.Nodes.{size}
@@ -16,7 +15,7 @@ use Rattle.nodes.specs.Held.{tagsOf}
 use Rattle.questions.specs.Questions.{isWithin, isContaining, allOf}
 use Rattle.sheet.specs.Sheet.{Contents, encode}
 use Rattle.tables.specs.Lent.{lentBoth, lentList}
-use Rattle.catalogue.specs.Calls.{contents, Call, Question, registerPart, lookUp, insertKit, findKit, deleteKit, anyWithin, anyContaining}
+use Rattle.catalogue.specs.Calls.{contents, Call, registerPart, lookUp, insertKit, findKit, deleteKit, anyWithin, anyContaining}
 use Rattle.catalogue.specs.Calls.{allWithin, allContaining, writeSheet, planOf, inserting, finding, deleting, anyKit, allKits, writing}
 use Rattle.demands.specs.Model.{entered}
 use Rattle.demands.specs.Demand1.{told}
