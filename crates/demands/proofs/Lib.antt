@@ -10,6 +10,9 @@ pub mod Counts
 pub mod Sheets
 pub mod Told
 pub mod Damaged
+pub mod Shown
 pub mod Offsets
 pub mod Values
+pub mod Opened
 pub mod ShortCases
+pub mod Limits

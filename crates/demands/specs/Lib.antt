@@ -6,3 +6,4 @@ pub mod Almost
 pub mod Demand3
 pub mod Pins
 pub mod ShortCases
+pub mod Limits
