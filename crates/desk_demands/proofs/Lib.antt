@@ -2,5 +2,6 @@
 pub mod Made
 pub mod Outputs
 pub mod Told
+pub mod Numbers
 pub mod Said
 pub mod Session

@@ -36,7 +36,7 @@ DesksTell =
     (input input′ o p s t : List ℕ) → Writes (tablesAfter input) o s → Writes (tablesAfter input′) p t →
     (s ≡ t) ↔ Agree (entered (deskOf input)) (entered (deskOf input′))
 
--- DEMAND 1: every reply, in terms of the calls that the line makes and of what the accepted calls before it left, and never of a table.
+-- DEMANDS 1 AND 2: every reply, in terms of the calls that the line makes and of what the accepted calls before it left (`told`, `answering`).
 -- "then tags for b and s, or the sheet in capital hex for W": what a call of the desk shows behind its number and value
 unfoldable pub shownFor : Contents → Call → List ℕ
 shownFor m (allWithin l o) = tagsText (tagsOf (answering isWithin l m))
@@ -88,6 +88,11 @@ numbersOf x =
 pub data Said : List ℕ → Type 0 where
   other : Said otherLine
   reply : (x n v : ℕ) (rest : List ℕ) → anyb (eqb n) (numbersOf x) ≡ true → Said (replyLine x n v rest)
+
+-- (its bytes tell the letter and the number) Proof: Numbers, `one-number`
+abbrev pub OneNumber : Type 0
+OneNumber =
+    (x n v : ℕ) (rest : List ℕ) (x′ n′ v′ : ℕ) (rest′ : List ℕ) → replyLine x n v rest ≡ replyLine x′ n′ v′ rest′ → (x ≡ x′) × (n ≡ n′)
 
 -- after any input, to any line, with the desk's places. Proof: Said, `never-said`
 abbrev pub NeverSaid : Type 0
