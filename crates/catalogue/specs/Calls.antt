@@ -57,12 +57,16 @@ finding l T = plan (lentList T l ++ missingRefusals (units l) (T .nodes)) (tagOf
 unfoldable pub deleting : List ℕ → Tables → Plan Tables
 deleting l T = plan (lentList T l ++ missingRefusals (units l) (T .nodes)) (tagOf T l) (tables (T .register) (strike (T .nodes) (units l)))
 
--- "Any kit within the bin; any kit containing the list": question is isWithin or isContaining
-unfoldable pub anyKit : (List ℕ → Kit → Bool) → List ℕ → Tables → Plan Tables
+-- a question that is asked of a list's units and a kit: `isWithin`, `isContaining` or `isAlmost d`
+abbrev pub Question : Type 0
+Question = List ℕ → Kit → Bool
+
+-- "Any kit within the bin; any kit containing the list"
+unfoldable pub anyKit : Question → List ℕ → Tables → Plan Tables
 anyKit question l T = plan (lentList T l) (anyOf question l (T .nodes)) T
 
 -- "All such kits": set down at the start of a lent output of 16-bit numbers
-unfoldable pub allKits : (List ℕ → Kit → Bool) → List ℕ → Tables → List ℕ → Plan (List ℕ)
+unfoldable pub allKits : Question → List ℕ → Tables → List ℕ → Plan (List ℕ)
 allKits question l T o = setDown (lentList T l) (allOf question l (T .nodes)) o
 
 -- "list the tags of exactly those kits whose shortfall is at most d .. with the shortfall of each in a second lent output": "new 14, d

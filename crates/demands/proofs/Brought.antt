@@ -50,8 +50,9 @@ use Rattle.tables.proofs.Lent.{list-passed}
 use Rattle.catalogue.specs.Calls.{Call, emptyBoth, registerPart, lookUp, showAt, insertKit, findKit, deleteKit, anyWithin, anyContaining}
 use Rattle.catalogue.specs.Calls.{allWithin, allContaining, allAlmost, writeSheet, readSheet, planOf, emptying, inserting, finding}
 use Rattle.catalogue.specs.Calls.{deleting, anyKit, reading}
-use Rattle.catalogue.specs.Demands as demand
-use Rattle.catalogue.specs.Demands.{has, listedIn, step, model, run, log, Catalogue, Allowed, begun, tablesOf, entered}
+use Rattle.demands.specs.Model as demand
+use Rattle.demands.specs.Model.{has, listedIn, step, model, run, log, Catalogue, Allowed, begun}
+use Rattle.demands.specs.Model.{tablesOf, entered}
 use Rattle.demands.proofs.Model.{apart, order-same, every-dropped, dropped-apart, order-dropped}
 
 -- a tag of two bytes

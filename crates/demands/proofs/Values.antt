@@ -48,7 +48,8 @@ use Rattle.tables.specs.Lent.{partCount, lengths, lentBoth, lentList}
 use Rattle.catalogue.specs.Calls.{emptyBoth, registerPart, lookUp, showAt, insertKit, findKit, deleteKit, anyWithin, anyContaining}
 use Rattle.catalogue.specs.Calls.{allWithin, allContaining, allAlmost, writeSheet, readSheet, planOf, emptying, inserting, finding}
 use Rattle.catalogue.specs.Calls.{deleting, anyKit, allKits, almostKits, writing, reading}
-use Rattle.catalogue.specs.Demands.{Question, ValuesFit}
+use Rattle.catalogue.specs.Calls.{Question}
+use Rattle.demands.specs.Pins.{ValuesFit}
 use Rattle.demands.proofs.Offsets.{fault-near}
 
 -- The first refusals have the value 0, so that what stands behind them matters only where they pass
