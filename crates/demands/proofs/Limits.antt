@@ -1,7 +1,7 @@
 -- The limits, computed.
 use mathlib.Core.Path.{refl}
-use Rattle.demands.specs.Limits.{registeredAlone, mayStand, fiveParts, pathFrom, pathAnswer, listNumber, twoKits, readIn, NumberLimits, LengthLimits}
-use Rattle.demands.specs.Limits.{PathLimits, ListLimits, RoomLimits, OrderOfRefusals, SheetLimits, Limits}
+use Rattle.demands.specs.Limits.{registeredAlone, mayStand, fiveParts, pathFrom, pathAnswer, listNumber, twoKits, wordsAfter, readIn, NumberLimits, LengthLimits}
+use Rattle.demands.specs.Limits.{PathLimits, ListLimits, RoomLimits, OrderOfRefusals, NodeWords, SheetLimits, Limits}
 use Rattle.demands.proofs.Opened.{opened}
 
 number-limits : NumberLimits
@@ -29,9 +29,13 @@ unfolding opened fiveParts twoKits
 order-of-refusals =
     (refl, refl, refl, refl, refl, refl, refl, refl, refl, refl, refl, refl, refl, refl, refl, refl, refl, refl, refl, refl, refl, refl)
 
+node-words : NodeWords
+unfolding opened wordsAfter
+node-words = (refl, refl, refl)
+
 sheet-limits : SheetLimits
 unfolding opened readIn
 sheet-limits = (refl, refl, refl, refl, refl, refl, refl, refl, refl, refl, refl, refl)
 
 pub limits : Limits
-limits = (number-limits, length-limits, path-limits, list-limits, room-limits, order-of-refusals, sheet-limits)
+limits = (number-limits, length-limits, path-limits, list-limits, room-limits, order-of-refusals, node-words, sheet-limits)

@@ -5,9 +5,9 @@
 -- each function shows that it ends and stays inside its memory.
 use mathlib.Core.Path.{_≡_}
 use mathlib.Core.Logic.{_↔_, _⊎_}
-use mathlib.Core.Bool.{Bool, _||_, false, not, true}
+use mathlib.Core.Bool.{_||_, false, not}
 use mathlib.Core.List.{List, [], _++_, _∷_}
-use Prim.Native.Nat.{_+_, _-_, _≤_, ℕ}
+use Prim.Native.Nat.{_+_, _-_, ℕ}
 use lib.ListN.{length}
 use lib.Dec.{eqb, leb, ltb}
 use Rattle.ground.specs.Lists.{anyb, isZero}

@@ -3,17 +3,14 @@
 -- and no second accepted sheet means the same."
 use mathlib.Core.Path.{_≡_}
 use mathlib.Core.Logic.{_↔_}
-use mathlib.Core.Bool.{true}
 use mathlib.Core.List.{List}
 use Prim.Native.Nat.{_≤_, ℕ}
 use lib.ListN.{drop, length, take}
 use Rattle.ground.specs.Calls.{answer, done, memory}
 use Rattle.ground.specs.Tables.{Tables}
-use Rattle.register.specs.Register.{registerLength, slotCount}
-use Rattle.nodes.specs.Nodes.{nodesLength, size}
 use Rattle.nodes.specs.Held.{tagIn}
 use Rattle.sheet.specs.Bytes.{Bytes}
-use Rattle.sheet.specs.Sheet.{Contents, encode, nodesNeeded, slotsNeeded}
+use Rattle.sheet.specs.Sheet.{Contents, encode}
 use Rattle.sheet.specs.Reading.{decode, said}
 use Rattle.sheet_read.specs.Filling.{Roomy}
 use Rattle.catalogue.specs.Calls.{contents, reading, writing}

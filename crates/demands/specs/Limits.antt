@@ -4,15 +4,14 @@ use mathlib.Core.Path.{_≡_}
 use mathlib.Core.Bool.{Bool}
 use mathlib.Core.List.{List, [], _∷_, _++_, map}
 use Prim.Native.Nat.{ℕ, zero, suc, _+_, _-_, _*_, _/_}
-use lib.ListN.{length, take, replicate}
+use lib.ListN.{take, replicate}
 use Rattle.ground.specs.Lists.{from, keep, isZero}
-use Rattle.ground.specs.Calls.{Reply, done, refused, numberOf, valueOf, answer, memory, both}
+use Rattle.ground.specs.Calls.{Reply, done, refused, numberOf, valueOf, answer, both}
 use Rattle.ground.specs.Tables.{Tables, tables}
 use Rattle.register.specs.Calls.{registering, lookingUp, showing}
-use Rattle.kits.specs.Kits.{listOf}
 use Rattle.questions.specs.Questions.{isWithin, isContaining}
-use Rattle.sheet.specs.Sheet.{Contents, encode}
-use Rattle.catalogue.specs.Calls.{Call, registerPart, insertKit, contents, emptying, inserting, finding, anyKit, allKits, almostKits, reading}
+use Rattle.sheet.specs.Sheet.{encode}
+use Rattle.catalogue.specs.Calls.{Call, registerPart, insertKit, deleteKit, emptying, inserting, finding, anyKit, allKits, almostKits, reading}
 use Rattle.demands.specs.Model.{has, tablesOf}
 
 -- tables of so many bytes and words, all zero, and of so many slots and nodes
@@ -160,6 +159,36 @@ OrderOfRefusals =
     × (map (λ p. numberOf (answer (showing p (twoKits .register)))) (0 ∷ 1 ∷ 2 ∷ []) ≡ 11 ∷ 0 ∷ 11 ∷ [])
 
 ------------------------------------------------------------------------
+-- "parent, first child, next sibling, label, depth, tag". "Insertion takes missing nodes from shallow to deep, each the lowest numbered free
+-- one." "Freed nodes are used again."
+
+-- the words of five nodes, after some calls behind the registration of three parts
+unfoldable pub wordsAfter : List Call → List ℕ
+wordsAfter cs = tablesOf (record {
+  slots = 3;
+  room = 5;
+  calls = registerPart (0x41 ∷ []) ∷ registerPart (0x42 ∷ []) ∷ registerPart (0x43 ∷ []) ∷ cs;
+}) .nodes
+
+abbrev pub twoEntered : List Call
+twoEntered = insertKit (1 ∷ 2 ∷ []) 7 ∷ insertKit (2 ∷ 1 ∷ []) 8 ∷ []
+
+abbrev pub NodeWords : Type 0
+NodeWords =
+    (wordsAfter twoEntered ≡ 0 ∷ 1 ∷ 0 ∷ 0 ∷ 0 ∷ 0
+    ∷ 0 ∷ 2 ∷ 3 ∷ 1 ∷ 1 ∷ 0
+    ∷ 1 ∷ 0 ∷ 0 ∷ 1 ∷ 2 ∷ 7
+    ∷ 0 ∷ 0 ∷ 0 ∷ 2 ∷ 1 ∷ 8
+    ∷ replicate 6 0)
+    × (wordsAfter (twoEntered ++ (deleteKit (1 ∷ 2 ∷ []) ∷ [])) ≡ 0 ∷ 3 ∷ 0 ∷ 0 ∷ 0 ∷ 0
+    ∷ (replicate 12 0 ++ (0 ∷ 0 ∷ 0 ∷ 2 ∷ 1 ∷ 8
+    ∷ replicate 6 0)))
+    × (wordsAfter (twoEntered ++ (deleteKit (1 ∷ 2 ∷ []) ∷ insertKit (3 ∷ 1 ∷ []) 9 ∷ [])) ≡ 0 ∷ 3 ∷ 0 ∷ 0 ∷ 0 ∷ 0
+    ∷ 0 ∷ 0 ∷ 0 ∷ 3 ∷ 1 ∷ 9
+    ∷ (replicate 6 0 ++ (0 ∷ 0 ∷ 1 ∷ 2 ∷ 1 ∷ 8
+    ∷ replicate 6 0)))
+
+------------------------------------------------------------------------
 -- The sheet: "13's value is the offset where the first faulty item starts", and what reading needs
 
 -- the parts a and b, and the kits (1) and (2) with the tags t and u
@@ -195,4 +224,4 @@ SheetLimits =
     × (readIn 3 5 largerSheet ≡ done 3)
 
 abbrev pub Limits : Type 0
-Limits = NumberLimits × LengthLimits × PathLimits × ListLimits × RoomLimits × OrderOfRefusals × SheetLimits
+Limits = NumberLimits × LengthLimits × PathLimits × ListLimits × RoomLimits × OrderOfRefusals × NodeWords × SheetLimits
