@@ -1,0 +1,5 @@
+-- Laws of faults in a sheet.
+pub mod Cuts
+pub mod Fronts
+pub mod Runs
+pub mod Faults

@@ -1,0 +1,70 @@
+-- Document 01, "The KIT sheet": "13's value is the offset where the first faulty item starts". The items of a sheet as bytes, where a cut one
+-- starts, and what a sheet answers that is cut or has bytes behind its end, as statements that the laws prove.
+use mathlib.Core.Path.{_≡_}
+use mathlib.Core.Bool.{false, cond}
+use mathlib.Core.List.{List, [], _∷_, _++_, map}
+use Prim.Native.Nat.{ℕ, suc, _+_, _-_, _<_}
+use lib.ListN.{length, take, drop}
+use lib.Dec.{ltb}
+use Rattle.ground.specs.Calls.{refused, decide}
+use Rattle.ground.specs.Lists.{concat}
+use Rattle.nodes.specs.Held.{Kit}
+use Rattle.sheet.specs.Bytes.{two, Bytes}
+use Rattle.sheet.specs.Sheet.{Contents, mark, version, placeBytes, numberItem, recordItem, encode}
+use Rattle.sheet.specs.Reading.{fault, Run, decode, isFault, said}
+use Rattle.sheet.specs.Calls.{sheetRefusals}
+
+-- "Items are mark, version, part count, each number with its length, kit count": of these numbers and so many kits
+unfoldable pub frontItems : List (List ℕ) → ℕ → List (List ℕ)
+frontItems ps n = mark ∷ two version ∷ two (length ps) ∷ (map numberItem ps ++ (two n ∷ []))
+
+-- "each kit record"
+abbrev pub kitItems : ℕ → List Kit → List (List ℕ)
+kitItems w ks = map (recordItem w) ks
+
+unfoldable pub itemsOf : Contents → List (List ℕ)
+itemsOf c = frontItems (c .parts) (length (c .kits)) ++ kitItems placeBytes (c .kits)
+
+-- the offset at which the item starts in which byte n stands; behind them all, the one at which they end
+unfoldable pub startOfCut : List (List ℕ) → ℕ → ℕ
+startOfCut [] n = 0
+startOfCut (b ∷ bs) n = cond (ltb n (length b)) 0 (length b + startOfCut bs (n - length b))
+
+-- how many items are whole in the first n bytes
+unfoldable pub wholeItems : List (List ℕ) → ℕ → ℕ
+wholeItems [] n = 0
+wholeItems (b ∷ bs) n = cond (ltb n (length b)) 0 (suc (wholeItems bs (n - length b)))
+
+-- the run of records in bs, the first n bytes of these kits' records and of whatever follows: it has the kits whose records are whole
+abbrev pub runToCut : ℕ → List Kit → ℕ → List ℕ → ℕ → Run
+runToCut w ks n bs o = record {
+  kits = take (wholeItems (kitItems w ks) n) ks;
+  rest = drop (startOfCut (kitItems w ks) n) bs;
+  offset = o + startOfCut (kitItems w ks) n;
+  missing = length ks - wholeItems (kitItems w ks) n;
+}
+
+-- A sheet is its items. Proof: proofs/Faults, `items-make-sheet`
+abbrev pub ItemsMakeSheet : Type 0
+ItemsMakeSheet = (c : Contents) → concat (itemsOf c) ≡ encode c
+
+-- "The end is at fault when bytes remain". Proof: proofs/Faults, `fault-behind`
+abbrev pub FaultBehind : Type 0
+FaultBehind = (s : List ℕ) (x : ℕ) (bs : List ℕ) → Bytes s → isFault (decode s) ≡ false → decode (s ++ (x ∷ bs)) ≡ fault (length s)
+
+-- "An item is at fault when cut short": of an accepted sheet, cut to its first n bytes. Proof: proofs/Faults, `fault-at-cut`
+abbrev pub FaultAtCut : Type 0
+FaultAtCut =
+    (s : List ℕ) (n : ℕ) → Bytes s → isFault (decode s) ≡ false → n < length s →
+    decode (take n s) ≡ fault (startOfCut (itemsOf (said (decode s))) n)
+
+-- The same as answers of reading, whatever room the tables have. Proofs: proofs/Faults, `behind-refused`, `cut-refused`
+abbrev pub BehindRefused : Type 0
+BehindRefused =
+    (s : List ℕ) (x : ℕ) (bs : List ℕ) (slots nodes v : ℕ) → Bytes s → isFault (decode s) ≡ false →
+    decide (sheetRefusals (s ++ (x ∷ bs)) slots nodes) v ≡ refused 13 (length s)
+
+abbrev pub CutRefused : Type 0
+CutRefused =
+    (s : List ℕ) (n slots nodes v : ℕ) → Bytes s → isFault (decode s) ≡ false → n < length s →
+    decide (sheetRefusals (take n s) slots nodes) v ≡ refused 13 (startOfCut (itemsOf (said (decode s))) n)
