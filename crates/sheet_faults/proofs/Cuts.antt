@@ -43,16 +43,16 @@ whole-past b is k =
 
 -- a byte stands in the first item, or so many bytes behind it
 pub data InOrPast (b : List ℕ) : ℕ → Type 0 where
-  within : {n : ℕ} → n < length b → InOrPast b n
-  past : (k : ℕ) → InOrPast b (length b + k)
+  in-it : {n : ℕ} → n < length b → InOrPast b n
+  past-it : (k : ℕ) → InOrPast b (length b + k)
 
 pub in-or-past : (b : List ℕ) (n : ℕ) → InOrPast b n
-in-or-past b n = ⊎-elim (λ (h : n < length b). within h) (λ (h : length b ≤ n). later h) (below-or n (length b))
+in-or-past b n = ⊎-elim (λ (h : n < length b). in-it h) (λ (h : length b ≤ n). later h) (below-or n (length b))
   where
     later : length b ≤ n → InOrPast b n
     later h =
         let e : length b + (n - length b) ≡ n = omega arith in
-        let p : InOrPast b (length b + (n - length b)) = past (n - length b) in
+        let p : InOrPast b (length b + (n - length b)) = past-it (n - length b) in
         rw e at p
 
 -- some bytes behind others, cut
@@ -63,8 +63,8 @@ start-left (b ∷ is) js n h = go n (in-or-past b n) h (start-left is js)
   where
     go : (n : ℕ) → InOrPast b n → n < length (b ++ concat is) →
         ((k : ℕ) → k < length (concat is) → startOfCut (is ++ js) k ≡ startOfCut is k) → startOfCut (b ∷ (is ++ js)) n ≡ startOfCut (b ∷ is) n
-    go n (within l) h f = start-in b (is ++ js) n l ∙ sym (start-in b is n l)
-    go n (past k) h f =
+    go n (in-it l) h f = start-in b (is ++ js) n l ∙ sym (start-in b is n l)
+    go n (past-it k) h f =
         let l : k < length (concat is) = omega (arith, length-append b (concat is)) in
         start-past b (is ++ js) k ∙ (rw (f k l) (sym (start-past b is k)))
 
@@ -77,21 +77,6 @@ start-right (b ∷ is) js k =
     let e : length (b ++ concat is) + k ≡ length b + (length (concat is) + k) = omega (arith, length-append b (concat is)) in
     rw (e, start-past b (is ++ js) (length (concat is) + k), start-right is js k) (omega (arith, length-append b (concat is)))
 
--- behind them all
-pub start-all : (is : List (List ℕ)) (k : ℕ) → startOfCut is (length (concat is) + k) ≡ length (concat is)
-unfolding concat startOfCut
-start-all [] k = refl
-start-all (b ∷ is) k =
-    let e : length (b ++ concat is) + k ≡ length b + (length (concat is) + k) = omega (arith, length-append b (concat is)) in
-    rw (e, start-past b is (length (concat is) + k), start-all is k, length-append b (concat is))
-
-pub whole-all : (is : List (List ℕ)) (k : ℕ) → wholeItems is (length (concat is) + k) ≡ length is
-unfolding concat wholeItems
-whole-all [] k = refl
-whole-all (b ∷ is) k =
-    let e : length (b ++ concat is) + k ≡ length b + (length (concat is) + k) = omega (arith, length-append b (concat is)) in
-    rw (e, whole-past b is (length (concat is) + k), whole-all is k)
-
 -- where one is cut, not all are whole
 pub whole-few : (is : List (List ℕ)) (n : ℕ) → n < length (concat is) → wholeItems is n < length is
 unfolding concat
@@ -100,8 +85,8 @@ whole-few (b ∷ is) n h = go n (in-or-past b n) h (whole-few is)
   where
     go : (n : ℕ) → InOrPast b n → n < length (b ++ concat is) → ((k : ℕ) → k < length (concat is) → wholeItems is k < length is) →
         wholeItems (b ∷ is) n < length (b ∷ is)
-    go n (within l) h f = omega (arith, whole-in b is n l)
-    go n (past k) h f =
+    go n (in-it l) h f = omega (arith, whole-in b is n l)
+    go n (past-it k) h f =
         let l : k < length (concat is) = omega (arith, length-append b (concat is)) in
         omega (arith, whole-past b is k, f k l)
 
@@ -119,10 +104,10 @@ pub record GoesOver {A : Type 0} (m : Reading A) (is : List (List ℕ)) (a : A) 
   pub stops : StopsAtCut m is
 
 -- one item is cut where its size, of the bytes that are left, is more than they are
-pub one-short : (size : List ℕ → ℕ) (good : List ℕ → Bool) (b rest : List ℕ) (n o : ℕ) → n < length b → n < size (take n b) →
+pub one-cut : (size : List ℕ → ℕ) (good : List ℕ → Bool) (b rest : List ℕ) (n o : ℕ) → n < length b → n < size (take n b) →
     one size good (take n (b ++ rest)) o ≡ fault o
 unfolding one
-one-short size good b rest n o h k =
+one-cut size good b rest n o h k =
     let t : take n (b ++ rest) ≡ take n b = take-append-le n b rest (omega arith) in
     let l : length (take n b) ≡ n = length-take-le n b (omega arith) in
     let e : leb (size (take n b)) n ≡ false = lt-leb (size (take n b)) n k in
@@ -137,7 +122,7 @@ over-one size good b s c g = record {
       λ n h rest o.
       let l : n < length b = rw append-nil at h in
       let e : o + 0 ≡ o = omega arith in
-      rw (append-nil, start-in b [] n l, e) (one-short size good b rest n o l (c n l));
+      rw (append-nil, start-in b [] n l, e) (one-cut size good b rest n o l (c n l));
 }
 
 pub over-none : {A : Type 0} (a : A) → GoesOver (give a) [] a
@@ -152,8 +137,8 @@ module _ {A B : Type 0} {m : Reading A} (f : A → Reading B) {is : List (List �
     where
       go : (n : ℕ) → InOrPast (concat is) n → n < length (concat is ++ concat js) →
           onward (m (take n (concat is ++ (concat js ++ rest))) o) f ≡ fault (o + startOfCut (is ++ js) n)
-      go n (within l) h = rw (t .stops n l (concat js ++ rest) o, start-left is js n l)
-      go n (past k) h =
+      go n (in-it l) h = rw (t .stops n l (concat js ++ rest) o, start-left is js n l)
+      go n (past-it k) h =
           let l : k < length (concat js) = omega (arith, length-append (concat is) (concat js)) in
           let e : o + length (concat is) + startOfCut js k ≡ o + (length (concat is) + startOfCut js k) = omega arith in
           let x = t .takes (take k (concat js ++ rest)) o in

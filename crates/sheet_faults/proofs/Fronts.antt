@@ -15,32 +15,32 @@ use Rattle.sheet.specs.Sheet.{mark, markBytes, version, numberItem}
 use Rattle.sheet.specs.Reading.{Reading, _>>=_, give, one, bytes, anyTwo, isVersion, goodPartCount, numberSize, newNumber, numbers, Front, front}
 use Rattle.sheet.proofs.Numbers.{two-back, two-length}
 use Rattle.sheet.proofs.Written.{NewNumbers, no-more, another, number-new, version-good, any-good}
-use Rattle.sheet_faults.specs.Faults.{frontItems}
+use Rattle.sheet_faults.specs.Faults.{frontItems, announcing}
 use Rattle.sheet_faults.proofs.Cuts.{GoesOver, over-one, over-none, over-behind, over-given}
 
 -- a number with its length
-number-size : (n rest : List ℕ) → numberSize (numberItem n ++ rest) ≡ length (numberItem n)
+number-as-long : (n rest : List ℕ) → numberSize (numberItem n ++ rest) ≡ length (numberItem n)
 unfolding numberSize numberItem
-number-size n rest = omega arith
+number-as-long n rest = omega arith
 
-number-short : (n : List ℕ) (k : ℕ) → k < length (numberItem n) → k < numberSize (take k (numberItem n))
+number-cut-short : (n : List ℕ) (k : ℕ) → k < length (numberItem n) → k < numberSize (take k (numberItem n))
 unfolding numberSize numberItem
-number-short n zero h = omega arith
-number-short n (suc k) h = omega arith
+number-cut-short n zero h = omega arith
+number-cut-short n (suc k) h = omega arith
 
 over-number : (seen : List (List ℕ)) (n : List ℕ) → goodNumber n ≡ true → anyb (eqList n) seen ≡ false →
     GoesOver (one numberSize (newNumber seen)) (numberItem n ∷ []) (numberItem n)
-over-number seen n g h = over-one numberSize (newNumber seen) (numberItem n) (number-size n) (number-short n) (number-new seen n g h)
+over-number seen n g h = over-one numberSize (newNumber seen) (numberItem n) (number-as-long n) (number-cut-short n) (number-new seen n g h)
 
 -- numbers behind those seen
-abbrev behindNumber : ℕ → List (List ℕ) → List ℕ → Reading (List (List ℕ))
-behindNumber k seen b = _>>=_ (numbers k (drop 1 b ∷ seen)) (λ ns. give (drop 1 b ∷ ns))
+abbrev afterNumber : ℕ → List (List ℕ) → List ℕ → Reading (List (List ℕ))
+afterNumber k seen b = _>>=_ (numbers k (drop 1 b ∷ seen)) (λ ns. give (drop 1 b ∷ ns))
 
 pub over-numbers : {seen ns : List (List ℕ)} → NewNumbers seen ns → GoesOver (numbers (length ns) seen) (map numberItem ns) ns
 unfolding numbers numberItem
 over-numbers no-more = over-none []
 over-numbers (another {seen = seen} {ns = ns} {n = n} g h gs) =
-    over-behind (behindNumber (length ns) seen) (map numberItem ns) (over-number seen n g h) (over-given (_∷_ n) (over-numbers gs))
+    over-behind (afterNumber (length ns) seen) (map numberItem ns) (over-number seen n g h) (over-given (_∷_ n) (over-numbers gs))
 
 -- an item of so many bytes
 over-fixed : (w : ℕ) (good : List ℕ → Bool) (b : List ℕ) → length b ≡ w → good b ≡ true → GoesOver (one (bytes w) good) (b ∷ []) b
@@ -57,34 +57,31 @@ few-good n h = let e : fromBytes (two n) ≡ n = two-back n (omega arith) in rw 
 ------------------------------------------------------------------------
 -- The front
 
-abbrev pub announcing : List (List ℕ) → ℕ → Front
-announcing ps n = record { parts = ps; announced = n }
-
 -- what is read behind each of its items
-abbrev behindNumbers : List (List ℕ) → Reading Front
-behindNumbers ps = _>>=_ (one (bytes twoBytes) anyTwo) (λ k. give (announcing ps (fromBytes k)))
+abbrev afterNumbers : List (List ℕ) → Reading Front
+afterNumbers ps = _>>=_ (one (bytes twoBytes) anyTwo) (λ k. give (announcing ps (fromBytes k)))
 
-abbrev behindCount : List ℕ → Reading Front
-behindCount p = _>>=_ (numbers (fromBytes p) []) behindNumbers
+abbrev afterCount : List ℕ → Reading Front
+afterCount p = _>>=_ (numbers (fromBytes p) []) afterNumbers
 
-abbrev behindVersion : List ℕ → Reading Front
-behindVersion v = _>>=_ (one (bytes twoBytes) goodPartCount) behindCount
+abbrev afterVersion : List ℕ → Reading Front
+afterVersion v = _>>=_ (one (bytes twoBytes) goodPartCount) afterCount
 
-abbrev behindMark : List ℕ → Reading Front
-behindMark m = _>>=_ (one (bytes twoBytes) isVersion) behindVersion
+abbrev afterMark : List ℕ → Reading Front
+afterMark m = _>>=_ (one (bytes twoBytes) isVersion) afterVersion
 
 module _ {ps : List (List ℕ)} {n : ℕ} (new : NewNumbers [] ps) (few : length ps ≤ mostParts) (counted : n < twoLimit) where
-  over-kit-count : GoesOver (behindNumbers ps) (two n ∷ []) (announcing ps n)
+  over-kit-count : GoesOver (afterNumbers ps) (two n ∷ []) (announcing ps n)
   over-kit-count = rw (two-back n counted) at (over-given (λ k. announcing ps (fromBytes k)) (over-two anyTwo n (any-good (two n))))
 
-  over-parts : GoesOver (behindCount (two (length ps))) (map numberItem ps ++ (two n ∷ [])) (announcing ps n)
+  over-parts : GoesOver (afterCount (two (length ps))) (map numberItem ps ++ (two n ∷ [])) (announcing ps n)
   over-parts =
       let e : fromBytes (two (length ps)) ≡ length ps = two-back (length ps) (omega arith) in
-      rw e (over-behind behindNumbers (two n ∷ []) (over-numbers new) over-kit-count)
+      rw e (over-behind afterNumbers (two n ∷ []) (over-numbers new) over-kit-count)
 
   pub over-front : GoesOver front (frontItems ps n) (announcing ps n)
   unfolding front frontItems
   over-front =
-      over-behind behindMark _ (over-fixed markBytes (eqList mark) mark refl (eqList-refl mark))
-      (over-behind behindVersion _ (over-two isVersion version version-good)
-      (over-behind behindCount _ (over-two goodPartCount (length ps) (few-good (length ps) few)) over-parts))
+      over-behind afterMark _ (over-fixed markBytes (eqList mark) mark refl (eqList-refl mark))
+      (over-behind afterVersion _ (over-two isVersion version version-good)
+      (over-behind afterCount _ (over-two goodPartCount (length ps) (few-good (length ps) few)) over-parts))

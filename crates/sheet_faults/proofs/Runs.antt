@@ -2,28 +2,28 @@
 use mathlib.Core.Path.{_≡_, refl, _∙_}
 use mathlib.Core.Logic.{⊎-elim}
 use mathlib.Core.Bool.{Bool, true, false, _&&_, cond}
-use mathlib.Core.List.{List, [], _∷_, _++_, append-assoc, append-nil}
+use mathlib.Core.List.{List, [], _∷_, _++_, reverseAux, append-assoc, append-nil}
 use Prim.Native.Nat.{ℕ, suc, _+_, _*_, _-_, _^_, _≤_, _<_}
 use native.Mathlib.Omega.{arith}
 use lib.ListN.{length, take, getD, length-append, length-map}
-use lib.Seq.{take-append-add, drop-append-add, take-all, take-length, drop-append-seam, getD-take}
+use lib.Seq.{take-append-add, drop-append-add, getD-take}
 use borrow.Author.Tests.{eqb-true}
-use Rattle.ground.specs.Lists.{concat, isZero}
+use Rattle.ground.specs.Lists.{anyb, concat, isZero}
 use Rattle.ground.proofs.Laws.{below-or}
 use Rattle.nodes.specs.Held.{Kit}
 use Rattle.sheet.specs.Sheet.{Contents, recordItem, lineBytes, countAt, linesAt}
 use Rattle.sheet.specs.Inner.{goodKit}
-use Rattle.sheet.specs.Reading.{Item, item, fault, one, recordSize, newKit, kitIn, Run, stop, also, unless, records, whole}
+use Rattle.sheet.specs.Reading.{Item, item, fault, recordSize, hasTag, follows, newKit, Run, stop, also, unless, records, whole}
 use Rattle.sheet.proofs.Written.{one-good, NewKits, record-size, kit-new, kit-back}
 use Rattle.sheet_faults.specs.Faults.{kitItems, startOfCut, wholeItems, runToCut}
-use Rattle.sheet_faults.proofs.Cuts.{InOrPast, within, past, in-or-past, start-in, start-past, start-all, whole-in, whole-past, whole-all, whole-few}
-use Rattle.sheet_faults.proofs.Cuts.{one-short, StopsAtCut}
+use Rattle.sheet_faults.proofs.Cuts.{InOrPast, in-it, past-it, in-or-past, start-in, start-past, whole-in, whole-past, whole-few}
+use Rattle.sheet_faults.proofs.Cuts.{one-cut, StopsAtCut}
 
 -- the bytes that are left of a record are fewer than its line count says, or have none
-record-short : (w n : ℕ) → n < 256 ^ w → (k : Kit) → goodKit n k ≡ true → (m : ℕ) → m < length (recordItem w k) →
+record-cut-short : (w n : ℕ) → n < 256 ^ w → (k : Kit) → goodKit n k ≡ true → (m : ℕ) → m < length (recordItem w k) →
     m < recordSize w (take m (recordItem w k))
 unfolding recordSize
-record-short w n room k g m h = ⊎-elim (λ (l : m < linesAt). omega arith) (λ (l : linesAt ≤ m). counted l) (below-or m linesAt)
+record-cut-short w n room k g m h = ⊎-elim (λ (l : m < linesAt). omega arith) (λ (l : linesAt ≤ m). counted l) (below-or m linesAt)
   where
     b : List ℕ
     b = recordItem w k
@@ -33,6 +33,22 @@ record-short w n room k g m h = ⊎-elim (λ (l : m < linesAt). omega arith) (λ
         let e : getD (take m b) countAt 0 ≡ getD b countAt 0 = getD-take m b countAt 0 (omega arith) in
         let s : linesAt + getD b countAt 0 * lineBytes w ≡ length b = rw append-nil at (record-size w n room k g []) in
         rw e (omega arith)
+
+-- a record that the reader takes, in front of any others
+module _ (w n : ℕ) (room : n < 256 ^ w) (seen : List Kit) (k : Kit) (g : goodKit n k ≡ true) (h : anyb (hasTag (k .tag)) seen ≡ false)
+    (f : follows (k .row) seen ≡ true) where
+  pub records-step : (m : ℕ) (rest : List ℕ) (o : ℕ) →
+      records w (suc m) n seen (recordItem w k ++ rest) o ≡ also k (records w m n (k ∷ seen) rest (o + length (recordItem w k)))
+  unfolding records unless
+  records-step m rest o =
+      let e = one-good (recordSize w) (newKit w n seen) (recordItem w k) rest o (record-size w n room k g rest) (kit-new w n room k g seen h f) in
+      rw (e, kit-back w n room k g)
+
+  records-cut : (m : ℕ) (rest : List ℕ) (j o : ℕ) → j < length (recordItem w k) →
+      records w (suc m) n seen (take j (recordItem w k ++ rest)) o ≡ stop (suc m) (take j (recordItem w k ++ rest)) o
+  unfolding records unless
+  records-cut m rest j o l =
+      rw (one-cut (recordSize w) (newKit w n seen) (recordItem w k) rest j o l (record-cut-short w n room k g j l))
 
 -- a run, of which the first record is cut, or one behind it
 module _ (w : ℕ) (k : Kit) (ks : List Kit) (o : ℕ) where
@@ -58,43 +74,41 @@ module _ (w : ℕ) (k : Kit) (ks : List Kit) (o : ℕ) where
 -- the records of kits, and whatever follows, cut anywhere
 pub records-to-cut : (w n : ℕ) → n < 256 ^ w → {seen ks : List Kit} → NewKits n seen ks → (rest : List ℕ) (m o : ℕ) →
     let bs = take m (concat (kitItems w ks) ++ rest) in records w (length ks) n seen bs o ≡ runToCut w ks m bs o
-unfolding records concat unless startOfCut wholeItems
+unfolding concat records startOfCut wholeItems
 records-to-cut w n room NewKits.no-more rest m o = let e : o + 0 ≡ o = omega arith in rw e
 records-to-cut w n room (NewKits.another {seen = seen} {ks = ks} {k = k} g h f gs) rest m o =
     rw append-assoc (go m (in-or-past (recordItem w k) m) (records-to-cut w n room gs rest))
   where
-    b : List ℕ
-    b = recordItem w k
+    all : List ℕ
+    all = concat (kitItems w ks) ++ rest
 
-    left : ℕ → List ℕ
-    left m = take m (concat (kitItems w ks) ++ rest)
+    go : (m : ℕ) → InOrPast (recordItem w k) m →
+        ((j o : ℕ) → records w (length ks) n (k ∷ seen) (take j all) o ≡ runToCut w ks j (take j all) o) →
+        let bs = take m (recordItem w k ++ all) in records w (length (k ∷ ks)) n seen bs o ≡ runToCut w (k ∷ ks) m bs o
+    go m (in-it l) u = records-cut w n room seen k g h f (length ks) all m o l ∙ cut-first w k ks o m (take m (recordItem w k ++ all)) l
+    go m (past-it j) u =
+        let e = records-step w n room seen k g h f (length ks) (take j all) o in
+        rw (take-append-add (recordItem w k) all j, e, u j (o + length (recordItem w k))) (cut-behind w k ks o j (take j all))
 
-    go : (m : ℕ) → InOrPast b m →
-        ((j o : ℕ) → records w (length ks) n (k ∷ seen) (left j) o ≡ runToCut w ks j (left j) o) →
-        let bs = take m (b ++ (concat (kitItems w ks) ++ rest)) in
-        unless (one (recordSize w) (newKit w n seen) bs o) (stop (suc (length ks)) bs o)
-        (λ b rest o′. also (kitIn w b) (records w (length ks) n (kitIn w b ∷ seen) rest o′)) ≡ runToCut w (k ∷ ks) m bs o
-    go m (within l) u =
-        let e = one-short (recordSize w) (newKit w n seen) b (concat (kitItems w ks) ++ rest) m o l (record-short w n room k g m l) in
-        rw e (cut-first w k ks o m (take m (b ++ (concat (kitItems w ks) ++ rest))) l)
-    go m (past j) u =
-        let t : take (length b + j) (b ++ (concat (kitItems w ks) ++ rest)) ≡ b ++ left j = take-append-add b (concat (kitItems w ks) ++ rest) j in
-        let e = one-good (recordSize w) (newKit w n seen) b (left j) o (record-size w n room k g (left j)) (kit-new w n room k g seen h f) in
-        rw (t, e, kit-back w n room k g, u j (o + length b)) (cut-behind w k ks o j (left j))
+-- a run with these kits in front
+abbrev pub behindKits : List Kit → Run → Run
+behindKits ks r = record { kits = ks ++ r .kits; rest = r .rest; offset = r .offset; missing = r .missing }
 
--- uncut, all of them
-pub records-all : (w n : ℕ) → n < 256 ^ w → {seen ks : List Kit} → NewKits n seen ks → (rest : List ℕ) (o : ℕ) →
-    records w (length ks) n seen (concat (kitItems w ks) ++ rest) o ≡
-    record { kits = ks; rest = rest; offset = o + length (concat (kitItems w ks)); missing = 0 }
-records-all w n room {seen} {ks} new rest o =
+-- whole, and perhaps more records announced: the run goes on behind them
+pub records-past : (w n : ℕ) → n < 256 ^ w → {seen ks : List Kit} → NewKits n seen ks → (m : ℕ) (rest : List ℕ) (o : ℕ) →
+    records w (length ks + m) n seen (concat (kitItems w ks) ++ rest) o ≡
+    behindKits ks (records w m n (reverseAux ks seen) rest (o + length (concat (kitItems w ks))))
+unfolding concat
+records-past w n room NewKits.no-more m rest o =
+    let e : o + 0 ≡ o = omega arith in
+    let z : 0 + m ≡ m = omega arith in
+    rw (e, z)
+records-past w n room (NewKits.another {seen = seen} {ks = ks} {k = k} g h f gs) m rest o =
     let C : List ℕ = concat (kitItems w ks) in
-    let m : ℕ = length C + length rest in
-    let t : take m (C ++ rest) ≡ C ++ rest = take-all m (C ++ rest) (omega (arith, length-append C rest)) in
-    let r : records w (length ks) n seen (take m (C ++ rest)) o ≡ runToCut w ks m (take m (C ++ rest)) o = records-to-cut w n room new rest m o in
-    let a : startOfCut (kitItems w ks) m ≡ length C = start-all (kitItems w ks) (length rest) in
-    let b : wholeItems (kitItems w ks) m ≡ length ks = whole-all (kitItems w ks) (length rest) ∙ length-map ks (recordItem w) in
-    let z : length ks - length ks ≡ 0 = omega arith in
-    rw (t, a, b, take-length ks, drop-append-seam C rest, z) at r
+    let e : suc (length ks) + m ≡ suc (length ks + m) = omega arith in
+    let l : o + length (recordItem w k) + length C ≡ o + length (recordItem w k ++ C) = omega (arith, length-append (recordItem w k) C) in
+    let s = records-step w n room seen k g h f (length ks + m) (C ++ rest) o in
+    rw (e, append-assoc, s, records-past w n room gs m rest (o + length (recordItem w k)), l)
 
 -- a run with a record missing, or bytes behind it, is at fault where it ends
 pub run-at-fault : (ps : List (List ℕ)) (r : Run) → (r .missing ≡ 0 → length (r .rest) ≡ 0 → ⊥) → whole ps r ≡ fault (r .offset)

@@ -1,17 +1,18 @@
 -- Document 01, "The KIT sheet": "13's value is the offset where the first faulty item starts". The items of a sheet as bytes, where a cut one
 -- starts, and what a sheet answers that is cut or has bytes behind its end, as statements that the laws prove.
 use mathlib.Core.Path.{_≡_}
-use mathlib.Core.Bool.{false, cond}
-use mathlib.Core.List.{List, [], _∷_, _++_, map}
+use mathlib.Core.Bool.{Bool, true, false, cond}
+use mathlib.Core.List.{List, [], _∷_, _++_, map, reverse}
 use Prim.Native.Nat.{ℕ, suc, _+_, _-_, _<_}
 use lib.ListN.{length, take, drop}
 use lib.Dec.{ltb}
 use Rattle.ground.specs.Calls.{refused, decide}
+use Rattle.ground.specs.Limits.{twoLimit}
 use Rattle.ground.specs.Lists.{concat}
 use Rattle.nodes.specs.Held.{Kit}
 use Rattle.sheet.specs.Bytes.{two, Bytes}
 use Rattle.sheet.specs.Sheet.{Contents, mark, version, placeBytes, numberItem, recordItem, encode}
-use Rattle.sheet.specs.Reading.{fault, Run, decode, isFault, said}
+use Rattle.sheet.specs.Reading.{item, fault, one, recordSize, newKit, Run, Front, front, runOf, decode, isFault, said}
 use Rattle.sheet.specs.Calls.{sheetRefusals}
 
 -- "Items are mark, version, part count, each number with its length, kit count": of these numbers and so many kits
@@ -22,8 +23,12 @@ frontItems ps n = mark ∷ two version ∷ two (length ps) ∷ (map numberItem p
 abbrev pub kitItems : ℕ → List Kit → List (List ℕ)
 kitItems w ks = map (recordItem w) ks
 
-unfoldable pub itemsOf : Contents → List (List ℕ)
-itemsOf c = frontItems (c .parts) (length (c .kits)) ++ kitItems placeBytes (c .kits)
+-- of a sheet that says c, and announces n kits
+abbrev pub announcedItems : Contents → ℕ → List (List ℕ)
+announcedItems c n = frontItems (c .parts) n ++ kitItems placeBytes (c .kits)
+
+abbrev pub itemsOf : Contents → List (List ℕ)
+itemsOf c = announcedItems c (length (c .kits))
 
 -- the offset at which the item starts in which byte n stands; behind them all, the one at which they end
 unfoldable pub startOfCut : List (List ℕ) → ℕ → ℕ
@@ -35,7 +40,7 @@ unfoldable pub wholeItems : List (List ℕ) → ℕ → ℕ
 wholeItems [] n = 0
 wholeItems (b ∷ bs) n = cond (ltb n (length b)) 0 (suc (wholeItems bs (n - length b)))
 
--- the run of records in bs, the first n bytes of these kits' records and of whatever follows: it has the kits whose records are whole
+-- the run of records in bs, which are the first n bytes of these kits' records: it has the kits whose records are whole
 abbrev pub runToCut : ℕ → List Kit → ℕ → List ℕ → ℕ → Run
 runToCut w ks n bs o = record {
   kits = take (wholeItems (kitItems w ks) n) ks;
@@ -43,6 +48,15 @@ runToCut w ks n bs o = record {
   offset = o + startOfCut (kitItems w ks) n;
   missing = length ks - wholeItems (kitItems w ks) n;
 }
+
+-- what the front of a sheet says
+abbrev pub announcing : List (List ℕ) → ℕ → Front
+announcing ps n = record { parts = ps; announced = n }
+
+-- the bytes behind the last kit of c begin with no record that may follow it: "cut short, against a rule above, repeated .., or, for a kit, not
+-- after the one before it in listing order"
+unfoldable pub recordAtFault : Contents → List ℕ → Bool
+recordAtFault c bs = isFault (one (recordSize placeBytes) (newKit placeBytes (length (c .parts)) (reverse (c .kits))) bs 0)
 
 -- A sheet is its items. Proof: proofs/Faults, `items-make-sheet`
 abbrev pub ItemsMakeSheet : Type 0
@@ -57,6 +71,24 @@ abbrev pub FaultAtCut : Type 0
 FaultAtCut =
     (s : List ℕ) (n : ℕ) → Bytes s → isFault (decode s) ≡ false → n < length s →
     decode (take n s) ≡ fault (startOfCut (itemsOf (said (decode s))) n)
+
+-- The items of an accepted sheet, more kits announced, and behind them a record at fault. Proof: proofs/Faults, `fault-at-record`
+abbrev pub FaultAtRecord : Type 0
+FaultAtRecord =
+    (s : List ℕ) (n : ℕ) (bs : List ℕ) → Bytes s → isFault (decode s) ≡ false → let c = said (decode s) in
+    length (c .kits) < n → n < twoLimit → recordAtFault c bs ≡ true →
+    decode (concat (announcedItems c n) ++ bs) ≡ fault (length (concat (announcedItems c n)))
+
+-- Of an accepted sheet that is cut so many bytes behind its kit count, the front is read, and the run of records has the kits whose records are
+-- whole. Proof: proofs/Faults, `kept-at-cut`
+abbrev pub KeptAtCut : Type 0
+KeptAtCut =
+    (s : List ℕ) (n : ℕ) → Bytes s → isFault (decode s) ≡ false →
+    let c = said (decode s) in
+    let f = announcing (c .parts) (length (c .kits)) in
+    let o = length (concat (frontItems (c .parts) (length (c .kits)))) in
+    let bs = take n (concat (kitItems placeBytes (c .kits))) in
+    (front (take (o + n) s) 0 ≡ item f bs o) × (runOf f bs o ≡ runToCut placeBytes (c .kits) n bs o)
 
 -- The same as answers of reading, whatever room the tables have. Proofs: proofs/Faults, `behind-refused`, `cut-refused`
 abbrev pub BehindRefused : Type 0
