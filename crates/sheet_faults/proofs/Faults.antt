@@ -12,7 +12,8 @@ use Rattle.ground.specs.Lists.{concat}
 use Rattle.ground.specs.Calls.{decide}
 use Rattle.sheet.specs.Bytes.{Bytes}
 use Rattle.sheet.specs.Sheet.{Contents, placeBytes, numberItems, recordItems, encode}
-use Rattle.sheet.specs.Reading.{Item, item, fault, Reading, onward, one, recordSize, newKit, Run, stop, unless, records, Front, front, runOf, whole, decode, isFault, offset, said}
+use Rattle.sheet.specs.Reading.{Item, item, fault, Reading, onward, one, recordSize, newKit, Run, stop, unless, records, Front, front, runOf}
+use Rattle.sheet.specs.Reading.{whole, decode, isFault, offset, said}
 use Rattle.sheet.specs.Calls.{sheetRefusals}
 use Rattle.sheet.proofs.Written.{Fit}
 use Rattle.sheet.proofs.Accepted.{decode-again}
@@ -103,7 +104,8 @@ fault-behind s x bs h e =
     rw (z, i) at (decode-fault c (a .fit) 0 (rw z (a .fit .counted)) (x ∷ bs) (stop 0 (x ∷ bs) o) refl (λ m r. omega arith))
 
 -- wherever it stands, an item at fault is so at its start
-one-at-fault : (size : List ℕ → ℕ) (good : List ℕ → Bool) (bs : List ℕ) (o : ℕ) → isFault (one size good bs 0) ≡ true → one size good bs o ≡ fault o
+one-at-fault : (size : List ℕ → ℕ) (good : List ℕ → Bool) (bs : List ℕ) (o : ℕ) → isFault (one size good bs 0) ≡ true →
+    one size good bs o ≡ fault o
 unfolding one isFault
 one-at-fault size good bs o e = go (leb (size bs) (length bs) && good (take (size bs) bs)) e
   where
