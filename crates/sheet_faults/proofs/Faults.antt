@@ -1,31 +1,33 @@
 -- Where a sheet is at fault that is cut, or has bytes behind its end.
 use mathlib.Core.Path.{_≡_, refl, ap, sym, _∙_}
-use mathlib.Core.Bool.{Bool, true, false, _&&_, cond}
-use mathlib.Core.List.{List, [], _∷_, _++_, reverse, append-assoc, append-nil}
-use Prim.Native.Nat.{ℕ, suc, _+_, _-_, _^_, _<_}
+use mathlib.Core.Bool.{false}
+use mathlib.Core.List.{List, [], _∷_, _++_, map, reverse, append-assoc, append-nil}
+use Prim.Native.Nat.{ℕ, _+_, _^_, _<_}
 use native.Mathlib.Omega.{arith}
-use lib.ListN.{length, take, drop, length-append}
+use lib.ListN.{length, take, length-append}
 use lib.Seq.{take-append-add}
-use lib.Dec.{leb}
 use Rattle.ground.specs.Limits.{twoLimit}
 use Rattle.ground.specs.Lists.{concat}
 use Rattle.ground.specs.Calls.{decide}
-use Rattle.sheet.specs.Bytes.{Bytes}
-use Rattle.sheet.specs.Sheet.{Contents, placeBytes, numberItems, recordItems, encode}
-use Rattle.sheet.specs.Reading.{Item, item, fault, Reading, onward, one, recordSize, newKit, Run, stop, unless, records, Front, front, runOf}
+use Rattle.sheet.specs.Bytes.{inBytes, two, Bytes}
+use Rattle.sheet.specs.Sheet.{Contents, placeBytes, numberItem, numberItems, recordItems, encode}
+use Rattle.sheet.specs.Reading.{Item, item, fault, Reading, onward, Run, stop, records, Front, front, runOf}
 use Rattle.sheet.specs.Reading.{whole, decode, isFault, offset, said}
 use Rattle.sheet.specs.Calls.{sheetRefusals}
 use Rattle.sheet.proofs.Written.{Fit}
 use Rattle.sheet.proofs.Accepted.{decode-again}
-use Rattle.sheet_faults.specs.Faults.{frontItems, kitItems, announcedItems, itemsOf, announcing, startOfCut, runToCut, recordAtFault}
-use Rattle.sheet_faults.specs.Faults.{ItemsMakeSheet, FaultBehind, FaultAtCut, FaultAtRecord, KeptAtCut, BehindRefused, CutRefused}
+use Rattle.sheet_faults.specs.Faults.{frontItems, kitItems, announcedItems, itemsOf, announcing, startOfCut, runToCut}
+use Rattle.sheet_faults.specs.Faults.{ItemsMakeSheet, FaultBehind, FaultAtCut, KeptAtCut, BehindRefused, CutRefused}
 use Rattle.sheet_faults.proofs.Cuts.{concat-append, StopsAtCut, stops-behind}
 use Rattle.sheet_faults.proofs.Fronts.{over-front}
 use Rattle.sheet_faults.proofs.Runs.{records-to-cut, behindKits, records-past, run-at-fault, records-stop}
 
 pub items-make-sheet : ItemsMakeSheet
-unfolding frontItems encode numberItems recordItems concat
-items-make-sheet c = simp (concat-append, append-assoc)
+unfolding frontItems encode numberItems recordItems concat inBytes
+items-make-sheet c =
+    let P = map numberItem (c .parts) in
+    let T = two (length (c .kits)) ∷ [] in
+    rw (concat-append (frontItems (c .parts) (length (c .kits))) (kitItems placeBytes (c .kits)), concat-append P T) (simp append-assoc)
 
 -- what is read behind the front
 abbrev afterFront : Front → Reading Contents
@@ -49,7 +51,7 @@ module _ (c : Contents) (f : Fit c) where
       let e : 0 + length (concat F) + length (concat K) ≡ length (concat F ++ concat K) = omega (arith, length-append (concat F) (concat K)) in
       rw (concat-append F K, append-assoc, t, r, e)
 
-  decode-fault : (m : ℕ) → length (c .kits) + m < twoLimit → (bs : List ℕ) (r : Run) →
+  pub decode-fault : (m : ℕ) → length (c .kits) + m < twoLimit → (bs : List ℕ) (r : Run) →
       let is = announcedItems c (length (c .kits) + m) in
       records placeBytes m (length (c .parts)) (reverse (c .kits)) bs (length (concat is)) ≡ r →
       (r .missing ≡ 0 → length (r .rest) ≡ 0 → ⊥) → decode (concat is ++ bs) ≡ fault (r .offset)
@@ -81,11 +83,11 @@ module _ (c : Contents) (f : Fit c) where
       (rw (concat-append F K, w) (rw z at t), rw append-nil at r)
 
 -- an accepted sheet is the items of what it says
-record IsItems (s : List ℕ) (c : Contents) : Type 0 where
-  fit : Fit c
-  is : concat (itemsOf c) ≡ s
+pub record IsItems (s : List ℕ) (c : Contents) : Type 0 where
+  pub fit : Fit c
+  pub is : concat (itemsOf c) ≡ s
 
-accepted-items : (s : List ℕ) → Bytes s → isFault (decode s) ≡ false → IsItems s (said (decode s))
+pub accepted-items : (s : List ℕ) → Bytes s → isFault (decode s) ≡ false → IsItems s (said (decode s))
 unfolding isFault said
 accepted-items s h e = go (decode s) refl e
   where
@@ -102,28 +104,6 @@ fault-behind s x bs h e =
     let z : length (c .kits) + 0 ≡ length (c .kits) = omega arith in
     let o : ℕ = length (concat (announcedItems c (length (c .kits) + 0))) in
     rw (z, i) at (decode-fault c (a .fit) 0 (rw z (a .fit .counted)) (x ∷ bs) (stop 0 (x ∷ bs) o) refl (λ m r. omega arith))
-
--- wherever it stands, an item at fault is so at its start
-one-at-fault : (size : List ℕ → ℕ) (good : List ℕ → Bool) (bs : List ℕ) (o : ℕ) → isFault (one size good bs 0) ≡ true →
-    one size good bs o ≡ fault o
-unfolding one isFault
-one-at-fault size good bs o e = go (leb (size bs) (length bs) && good (take (size bs) bs)) e
-  where
-    go : (x : Bool) → isFault (cond x (item (take (size bs) bs) (drop (size bs) bs) (0 + size bs)) (fault 0)) ≡ true →
-        cond x (item (take (size bs) bs) (drop (size bs) bs) (o + size bs)) (fault o) ≡ fault o
-    go true e = absurd (let z : _≡_ {A = ℕ} 0 1 = cc in omega arith)
-    go false e = refl
-
-pub fault-at-record : FaultAtRecord
-unfolding records unless recordAtFault
-fault-at-record s n bs h e k l b =
-    let a = accepted-items s h e in
-    let c : Contents = said (decode s) in
-    let m : ℕ = n - suc (length (c .kits)) in
-    let z : length (c .kits) + suc m ≡ n = omega arith in
-    let o : ℕ = length (concat (announcedItems c (length (c .kits) + suc m))) in
-    let f = one-at-fault (recordSize placeBytes) (newKit placeBytes (length (c .parts)) (reverse (c .kits))) bs o b in
-    rw z at (decode-fault c (a .fit) (suc m) (rw z l) bs (stop (suc m) bs o) (rw f) (λ m r. omega arith))
 
 pub fault-at-cut : FaultAtCut
 fault-at-cut s n h e l =

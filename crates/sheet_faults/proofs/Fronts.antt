@@ -19,7 +19,7 @@ use Rattle.sheet_faults.specs.Faults.{frontItems, announcing}
 use Rattle.sheet_faults.proofs.Cuts.{GoesOver, over-one, over-none, over-behind, over-given}
 
 -- a number with its length
-number-as-long : (n rest : List ℕ) → numberSize (numberItem n ++ rest) ≡ length (numberItem n)
+pub number-as-long : (n rest : List ℕ) → numberSize (numberItem n ++ rest) ≡ length (numberItem n)
 unfolding numberSize numberItem
 number-as-long n rest = omega arith
 
@@ -50,7 +50,7 @@ over-fixed w good b e g = over-one (bytes w) good b (λ rest. sym e) (λ n h. om
 over-two : (good : List ℕ → Bool) (n : ℕ) → good (two n) ≡ true → GoesOver (one (bytes twoBytes) good) (two n ∷ []) (two n)
 over-two good n g = over-fixed twoBytes good (two n) (two-length n) g
 
-few-good : (n : ℕ) → n ≤ mostParts → goodPartCount (two n) ≡ true
+pub few-good : (n : ℕ) → n ≤ mostParts → goodPartCount (two n) ≡ true
 unfolding goodPartCount
 few-good n h = let e : fromBytes (two n) ≡ n = two-back n (omega arith) in rw e (le-leb n mostParts h)
 
@@ -58,16 +58,16 @@ few-good n h = let e : fromBytes (two n) ≡ n = two-back n (omega arith) in rw 
 -- The front
 
 -- what is read behind each of its items
-abbrev afterNumbers : List (List ℕ) → Reading Front
+abbrev pub afterNumbers : List (List ℕ) → Reading Front
 afterNumbers ps = _>>=_ (one (bytes twoBytes) anyTwo) (λ k. give (announcing ps (fromBytes k)))
 
-abbrev afterCount : List ℕ → Reading Front
+abbrev pub afterCount : List ℕ → Reading Front
 afterCount p = _>>=_ (numbers (fromBytes p) []) afterNumbers
 
-abbrev afterVersion : List ℕ → Reading Front
+abbrev pub afterVersion : List ℕ → Reading Front
 afterVersion v = _>>=_ (one (bytes twoBytes) goodPartCount) afterCount
 
-abbrev afterMark : List ℕ → Reading Front
+abbrev pub afterMark : List ℕ → Reading Front
 afterMark m = _>>=_ (one (bytes twoBytes) isVersion) afterVersion
 
 module _ {ps : List (List ℕ)} {n : ℕ} (new : NewNumbers [] ps) (few : length ps ≤ mostParts) (counted : n < twoLimit) where

@@ -3,3 +3,4 @@ pub mod Cuts
 pub mod Fronts
 pub mod Runs
 pub mod Faults
+pub mod Rules

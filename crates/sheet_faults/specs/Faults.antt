@@ -3,21 +3,26 @@
 use mathlib.Core.Path.{_≡_}
 use mathlib.Core.Bool.{Bool, true, false, cond}
 use mathlib.Core.List.{List, [], _∷_, _++_, map, reverse}
-use Prim.Native.Nat.{ℕ, suc, _+_, _-_, _<_}
+use Prim.Native.Nat.{ℕ, suc, _+_, _-_, _≤_, _<_}
 use lib.ListN.{length, take, drop}
 use lib.Dec.{ltb}
 use Rattle.ground.specs.Calls.{refused, decide}
-use Rattle.ground.specs.Limits.{twoLimit}
-use Rattle.ground.specs.Lists.{concat}
+use Rattle.ground.specs.Limits.{mostParts, twoLimit}
+use Rattle.ground.specs.Lists.{concat, eqList}
 use Rattle.nodes.specs.Held.{Kit}
-use Rattle.sheet.specs.Bytes.{two, Bytes}
-use Rattle.sheet.specs.Sheet.{Contents, mark, version, placeBytes, numberItem, recordItem, encode}
-use Rattle.sheet.specs.Reading.{item, fault, one, recordSize, newKit, Run, Front, front, runOf, decode, isFault, said}
+use Rattle.sheet.specs.Bytes.{two, twoBytes, Bytes}
+use Rattle.sheet.specs.Sheet.{Contents, mark, markBytes, version, placeBytes, numberItem, recordItem, encode}
+use Rattle.sheet.specs.Reading.{item, fault, one, bytes, isVersion, goodPartCount, numberSize, newNumber, recordSize, newKit, Run}
+use Rattle.sheet.specs.Reading.{Front, front, runOf, decode, isFault, said}
 use Rattle.sheet.specs.Calls.{sheetRefusals}
 
--- "Items are mark, version, part count, each number with its length, kit count": of these numbers and so many kits
+-- "Items are mark, version, part count, each number with its length": these numbers, of a sheet that announces n
+abbrev pub partItems : ℕ → List (List ℕ) → List (List ℕ)
+partItems n ps = mark ∷ two version ∷ two n ∷ map numberItem ps
+
+-- "kit count": n kits announced
 unfoldable pub frontItems : List (List ℕ) → ℕ → List (List ℕ)
-frontItems ps n = mark ∷ two version ∷ two (length ps) ∷ (map numberItem ps ++ (two n ∷ []))
+frontItems ps n = partItems (length ps) ps ++ (two n ∷ [])
 
 -- "each kit record"
 abbrev pub kitItems : ℕ → List Kit → List (List ℕ)
@@ -53,8 +58,11 @@ runToCut w ks n bs o = record {
 abbrev pub announcing : List (List ℕ) → ℕ → Front
 announcing ps n = record { parts = ps; announced = n }
 
--- the bytes behind the last kit of c begin with no record that may follow it: "cut short, against a rule above, repeated .., or, for a kit, not
--- after the one before it in listing order"
+-- the bytes behind these numbers begin with no number, or those behind the kits of c with no record, that may follow: "cut short, against a rule
+-- above, repeated (number or tag), or, for a kit, not after the one before it in listing order"; the latest is seen first
+unfoldable pub numberAtFault : List (List ℕ) → List ℕ → Bool
+numberAtFault ps bs = isFault (one numberSize (newNumber (reverse ps)) bs 0)
+
 unfoldable pub recordAtFault : Contents → List ℕ → Bool
 recordAtFault c bs = isFault (one (recordSize placeBytes) (newKit placeBytes (length (c .parts)) (reverse (c .kits))) bs 0)
 
@@ -72,10 +80,26 @@ FaultAtCut =
     (s : List ℕ) (n : ℕ) → Bytes s → isFault (decode s) ≡ false → n < length s →
     decode (take n s) ≡ fault (startOfCut (itemsOf (said (decode s))) n)
 
--- The items of an accepted sheet, more kits announced, and behind them a record at fault. Proof: proofs/Faults, `fault-at-record`
+-- Mark, version or part count at fault, behind what is right. Proof: proofs/Rules, `fault-at-opening`
+abbrev pub FaultAtOpening : Type 0
+FaultAtOpening =
+    (bs : List ℕ) →
+    (isFault (one (bytes markBytes) (eqList mark) bs 0) ≡ true → decode bs ≡ fault 0)
+    × (isFault (one (bytes twoBytes) isVersion bs 0) ≡ true → decode (mark ++ bs) ≡ fault (length mark))
+    × (isFault (one (bytes twoBytes) goodPartCount bs 0) ≡ true → decode (mark ++ (two version ++ bs)) ≡ fault (length (mark ++ two version)))
+
+-- The items of an accepted sheet to its last number, more parts announced, and behind them a number at fault. Proof: proofs/Rules, `fault-at-number`
+abbrev pub FaultAtNumber : Type 0
+FaultAtNumber =
+    (s : List ℕ) (n : ℕ) (bs : List ℕ) → Bytes s → isFault (decode s) ≡ false →
+    let ps = said (decode s) .parts in
+    length ps < n → n ≤ mostParts → numberAtFault ps bs ≡ true → decode (concat (partItems n ps) ++ bs) ≡ fault (length (concat (partItems n ps)))
+
+-- All its items, more kits announced, and behind them a record at fault. Proof: proofs/Rules, `fault-at-record`
 abbrev pub FaultAtRecord : Type 0
 FaultAtRecord =
-    (s : List ℕ) (n : ℕ) (bs : List ℕ) → Bytes s → isFault (decode s) ≡ false → let c = said (decode s) in
+    (s : List ℕ) (n : ℕ) (bs : List ℕ) → Bytes s → isFault (decode s) ≡ false →
+    let c = said (decode s) in
     length (c .kits) < n → n < twoLimit → recordAtFault c bs ≡ true →
     decode (concat (announcedItems c n) ++ bs) ≡ fault (length (concat (announcedItems c n)))
 
