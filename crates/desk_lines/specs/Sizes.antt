@@ -22,6 +22,6 @@ sheetBytes = 8192
 unfoldable pub emptyDesk : ℕ → ℕ → Tables
 emptyDesk slots nodes = tables (replicate (slots * slotBytes) 0) (replicate (nodes * wordsPerNode) 0)
 
--- the tables that the desk starts with
+-- [13.1] the tables that the desk starts with
 unfoldable pub begunDesk : Tables
 begunDesk = emptyDesk deskSlots deskNodes

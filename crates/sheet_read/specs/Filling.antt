@@ -9,7 +9,7 @@ use Rattle.index_insert.specs.Enter.{enterAll}
 use Rattle.sheet.specs.Sheet.{Contents, slotsNeeded, nodesNeeded}
 use Rattle.ground.specs.Tables.{Tables, tables}
 
--- both tables, emptied and filled with some contents: part by part and kit by kit
+-- [12.17] both tables, emptied and filled with some contents: part by part and kit by kit
 unfoldable pub filling : Contents → Tables → Tables
 filling c T = tables (registerOf (slotCount (T .register)) (c .parts)) (enterAll (zeroed (T .nodes)) (c .kits))
 
