@@ -1,7 +1,7 @@
--- What an output held before a line never shows in its reply.
+-- What an output held before a line never shows in its reply; replies come one after the other.
 use mathlib.Core.Path.{_≡_, refl, sym, ap, _∙_}
 use mathlib.Core.Bool.{Bool, true, false, cond}
-use mathlib.Core.List.{List, [], _∷_, _++_}
+use mathlib.Core.List.{List, [], _∷_, _++_, append-assoc, append-nil}
 use Prim.Native.Nat.{ℕ, _≤_}
 use lib.ListN.{length, take}
 use lib.Dec.{eqb, ltb}
@@ -17,11 +17,14 @@ use Rattle.sheet.specs.Sheet.{encode}
 use Rattle.tables.specs.Lent.{lentBoth, lentList}
 use Rattle.catalogue.specs.Calls.{Question, contents, allKits, writing}
 use Rattle.desk_text.specs.Letters as letter
-use Rattle.desk_text.specs.Lines.{Parsed, none, line}
+use Rattle.desk_text.specs.Lines.{Parsed, none, line, parsed}
+use Rattle.desk_input.specs.Lines.{answered}
 use Rattle.desk_replies.specs.Replies.{tagsText, replyLine}
 use Rattle.desk_lists.specs.Typed.{Typed, typed, stopped, lookedUp}
-use Rattle.desk_lines.specs.Desk.{Answered, shown, sheetText, writeLine, withList, asked, askLine, atDesk}
-use Rattle.desk_demands.specs.Demands.{OutputsNeverShow}
+use Rattle.desk_lines.specs.Desk.{Answered, shown, sheetText, writeLine, withList, asked, askLine, atDesk, leftBy}
+use Rattle.desk_lines.proofs.Left.{left-by}
+use Rattle.desk_demands.specs.Text.{repliesTo}
+use Rattle.desk_demands.specs.Demands.{OutputsNeverShow, RepliesInTurn}
 
 -- the value of a reply that is done is the one decided, and no refusal was given, the last neither
 pub done-value : (cs : List Case) (v w : ℕ) → decide cs v ≡ done w → w ≡ v
@@ -95,3 +98,13 @@ module _ (o s o′ s′ : List ℕ) (T : Tables) (eo : length o ≡ length o′)
 
 pub outputs-never-show : OutputsNeverShow
 outputs-never-show p o s o′ s′ T eo es = desk-same o s o′ s′ T eo es p
+
+pub replies-in-turn : RepliesInTurn
+unfolding repliesTo answered
+replies-in-turn [] l o s T = append-nil (atDesk (parsed l) o s T .says)
+replies-in-turn (k ∷ ls) l o s T =
+    let a = atDesk (parsed k) o s T in
+    let e : a .after ≡ leftBy k T = left-by k o s T in
+    ap (_++_ (a .says)) (replies-in-turn ls l o s (a .after))
+    ∙ sym (append-assoc (a .says) (repliesTo ls o s (a .after)) (atDesk (parsed l) o s (answered leftBy ls (a .after)) .says))
+    ∙ ap (λ (U : Tables). (a .says ++ repliesTo ls o s (a .after)) ++ atDesk (parsed l) o s (answered leftBy ls U) .says) e

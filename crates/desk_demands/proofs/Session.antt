@@ -10,7 +10,8 @@ use Rattle.register.specs.Register.{usedFirst, unusedZero, noneTwice, registerS
 use Rattle.register.specs.Calls.{lentRegister, numberRefusals, registering, lookingUp}
 use Rattle.kits.specs.Kits.{lineValue, lineFaults, linesFaults, listFaults, units, count, noMore, includes, before, linesFrom, listOf}
 use Rattle.nodes.specs.Nodes.{nodesLength, nodesOf, othersOf, zeroWord, isFree, isUsed, freeNodes, usedNodes, tagged, path, rowOf, chain, children}
-use Rattle.nodes.specs.Sound.{rootGood, parentGood, depthGood, labelGood, fewEqual, linksInside, childGood, nextGood, onChain, endTagged, tagsDiffer, usedOthers, nodesSound}
+use Rattle.nodes.specs.Sound.{rootGood, parentGood, depthGood, labelGood, fewEqual, linksInside, childGood, nextGood, onChain, endTagged}
+use Rattle.nodes.specs.Sound.{tagsDiffer, usedOthers, nodesSound}
 use Rattle.nodes.specs.Held.{putKit, inOrder, tagIn, tagsOf, firstTag, kitAt, held}
 use Rattle.index_links.specs.Links.{hasLabel, childWith, nodeOf, lastBelow, linkTo, link, unlink}
 use Rattle.index_insert.specs.Enter.{lowestFree, enter, lacks}

@@ -2,7 +2,7 @@
 use mathlib.Core.Path.{_≡_}
 use mathlib.Core.Logic.{_↔_}
 use mathlib.Core.Bool.{true, cond}
-use mathlib.Core.List.{List, [], _∷_}
+use mathlib.Core.List.{List, [], _∷_, _++_}
 use Prim.Native.Nat.{ℕ, _≤_}
 use lib.ListN.{length}
 use lib.Dec.{eqb}
@@ -19,9 +19,11 @@ use Rattle.demands.specs.Demand1.{told}
 use Rattle.demands.specs.Demand3.{Writes, Agree}
 use Rattle.desk_text.specs.Letters as letter
 use Rattle.desk_text.specs.Lines.{Parsed, none, line, parsed}
+use Rattle.desk_input.specs.Lines.{answered}
 use Rattle.desk_replies.specs.Replies.{tagsText, replyLine, otherLine}
 use Rattle.desk_lines.specs.Sizes.{deskSlots, deskNodes, outputPlaces}
-use Rattle.desk_lines.specs.Desk.{sheetText, atDesk}
+use Rattle.desk_lines.specs.Desk.{sheetText, atDesk, leftBy}
+use Rattle.desk_demands.specs.Text.{repliesTo}
 use Rattle.desk_demands.specs.Made.{callsOfLine, deskOf, tablesAfter}
 
 -- After any input the desk has the tables of a catalogue that was begun empty and brought on by the calls that its lines make: whatever the
@@ -74,6 +76,13 @@ DeskTold =
     (input l o s : List ℕ) →
     atDesk (parsed l) o s (tablesAfter input) .says
     ≡ toldOf (letterOf (parsed l)) (entered (deskOf input)) (callsOfLine (parsed l) o s (tablesAfter input))
+
+-- (the replies to some lines, one after the other, are these: the last is what is answered to the last line on the tables that those before
+-- it left) Proof: Outputs, `replies-in-turn`
+abbrev pub RepliesInTurn : Type 0
+RepliesInTurn =
+    (ls : List (List ℕ)) (l o s : List ℕ) (T : Tables) →
+    repliesTo (ls ++ (l ∷ [])) o s T ≡ repliesTo ls o s T ++ atDesk (parsed l) o s (answered leftBy ls T) .says
 
 -- The numbers that a reply may have, by its letter. 1 and 2 are not among them, since the desk's tables are never damaged; nor 5,
 -- since places are looked up; nor 13 and 14, whose calls it never makes; nor 12 for b and s, since 2,048 places are enough for 2,048 nodes.
