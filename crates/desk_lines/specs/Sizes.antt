@@ -5,7 +5,7 @@ use Rattle.ground.specs.Tables.{Tables, tables}
 use Rattle.register.specs.Register.{slotBytes}
 use Rattle.nodes.specs.Nodes.{wordsPerNode}
 
--- "It reads standard input with 255 slots, 2,048 nodes, 2,048 output places and 8,192 sheet bytes."
+-- [13.1] "It reads standard input with 255 slots, 2,048 nodes, 2,048 output places and 8,192 sheet bytes."
 abbrev pub deskSlots : ℕ
 deskSlots = 255
 

@@ -1,5 +1,5 @@
--- Document 01, "The KIT sheet": "13's value is the offset where the first faulty item starts". The items of a sheet as bytes, where a cut one
--- starts, and what a sheet answers that is cut or has bytes behind its end, as statements that the laws prove.
+-- Document 01, "The KIT sheet": "13's value is the offset where the first faulty item starts". The items of a sheet as bytes, and where a sheet
+-- is at fault that is cut, has an item at fault or has bytes behind its end, as statements that the laws prove.
 use mathlib.Core.Path.{_≡_}
 use mathlib.Core.Bool.{Bool, true, false, cond}
 use mathlib.Core.List.{List, [], _∷_, _++_, map, reverse}

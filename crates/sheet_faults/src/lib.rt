@@ -1,1 +1,1 @@
-// Laws alone: where a torn sheet is at fault, item by item, and where one with bytes behind its end is.
+// Laws alone: where a sheet is at fault that is cut, has an item at fault or has bytes behind its end.
