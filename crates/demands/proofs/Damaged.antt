@@ -22,7 +22,7 @@ use Rattle.tables.specs.Lent.{partCount, lengths, lentBoth, lentList}
 use Rattle.catalogue.specs.Calls.{Call, emptyBoth, registerPart, lookUp, showAt, insertKit, findKit, deleteKit, anyWithin, anyContaining}
 use Rattle.catalogue.specs.Calls.{allWithin, allContaining, allAlmost, writeSheet, readSheet, planOf, emptying, inserting, finding}
 use Rattle.catalogue.specs.Calls.{deleting, anyKit, allKits, almostKits, writing, reading}
-use Rattle.demands.specs.Demand1.{Asks, theRegister, theLengths, bothTables, asksOf, LengthWrong, TableUnsound, OneExactly, TwoExactly}
+use Rattle.demands.specs.Demand1.{TablesAsked, theRegister, theLengths, bothTables, asksOf, LengthWrong, TableUnsound, OneExactly, TwoExactly}
 
 ------------------------------------------------------------------------
 -- What is asked of the tables comes first, and every refusal behind it has a number above 2
@@ -79,27 +79,27 @@ unfolding listFaults
 list-above n l = also refl (lines-above n 0 1 l)
 
 -- what a call finds of the tables, right where it does not ask
-nodes-fit : Asks → Tables → Bool
+nodes-fit : TablesAsked → Tables → Bool
 nodes-fit theRegister T = true
 nodes-fit theLengths T = nodesLength (T .nodes)
 nodes-fit bothTables T = nodesLength (T .nodes)
 
-register-is : Asks → Tables → Bool
+register-is : TablesAsked → Tables → Bool
 register-is theRegister T = registerSound (T .register)
 register-is theLengths T = true
 register-is bothTables T = registerSound (T .register)
 
-nodes-are : Asks → Tables → Bool
+nodes-are : TablesAsked → Tables → Bool
 nodes-are theRegister T = true
 nodes-are theLengths T = true
 nodes-are bothTables T = nodesSound (partCount T) (T .nodes)
 
-what-is-asked : Asks → Tables → List Case
+what-is-asked : TablesAsked → Tables → List Case
 what-is-asked theRegister T = lentRegister (T .register)
 what-is-asked theLengths T = lengths T
 what-is-asked bothTables T = lentBoth T
 
-asked-front : (a : Asks) (T : Tables) (ds : List Case) (v : ℕ) →
+asked-front : (a : TablesAsked) (T : Tables) (ds : List Case) (v : ℕ) →
     decide (what-is-asked a T ++ ds) v ≡ decide (front (registerLength (T .register)) (nodes-fit a T) (register-is a T) (nodes-are a T) ds) v
 unfolding decide what-is-asked front nodes-fit register-is nodes-are lentRegister lengths lentBoth
 asked-front theRegister T ds v = refl
@@ -140,13 +140,13 @@ fronted (readSheet s) T = record { rest = _; cases = refl; above = also refl (al
 ------------------------------------------------------------------------
 -- The statements
 
-length-asked : (a : Asks) (T : Tables) → ((registerLength (T .register) ≡ false) ⊎ (nodes-fit a T ≡ false)) ↔ LengthWrong a T
+length-asked : (a : TablesAsked) (T : Tables) → ((registerLength (T .register) ≡ false) ⊎ (nodes-fit a T ≡ false)) ↔ LengthWrong a T
 unfolding nodes-fit
 length-asked theRegister T = (λ h. ⊎-elim (λ e. e) wrong h, λ e. inl e)
 length-asked theLengths T = (λ h. h, λ h. h)
 length-asked bothTables T = (λ h. h, λ h. h)
 
-sound-asked : (a : Asks) (T : Tables) → ((register-is a T ≡ false) ⊎ (nodes-are a T ≡ false)) ↔ TableUnsound a T
+sound-asked : (a : TablesAsked) (T : Tables) → ((register-is a T ≡ false) ⊎ (nodes-are a T ≡ false)) ↔ TableUnsound a T
 unfolding register-is nodes-are
 sound-asked theRegister T = (λ h. ⊎-elim (λ e. e) wrong h, λ e. inl e)
 sound-asked theLengths T = (λ h. ⊎-elim wrong wrong h, λ e. absurd e)

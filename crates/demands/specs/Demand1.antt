@@ -73,10 +73,10 @@ ToldExactly = (a : Catalogue) (c : Call) → Allowed a → answer (planOf c (tab
 
 -- what a call asks of the tables: "Register calls are lent only the register; all others both tables", and "Emptying and reading give 1 but
 -- never 2"
-pub data Asks : Type 0 where
-  theRegister theLengths bothTables : Asks
+pub data TablesAsked : Type 0 where
+  theRegister theLengths bothTables : TablesAsked
 
-unfoldable pub asksOf : Call → Asks
+unfoldable pub asksOf : Call → TablesAsked
 asksOf emptyBoth = theLengths
 asksOf (registerPart n) = theRegister
 asksOf (lookUp n) = theRegister
@@ -93,13 +93,13 @@ asksOf (writeSheet o) = bothTables
 asksOf (readSheet s) = theLengths
 
 -- "a table has a wrong length"
-abbrev pub LengthWrong : Asks → Tables → Type 0
+abbrev pub LengthWrong : TablesAsked → Tables → Type 0
 LengthWrong theRegister T = registerLength (T .register) ≡ false
 LengthWrong theLengths T = (registerLength (T .register) ≡ false) ⊎ (nodesLength (T .nodes) ≡ false)
 LengthWrong bothTables T = (registerLength (T .register) ≡ false) ⊎ (nodesLength (T .nodes) ≡ false)
 
 -- "a table is not sound"
-abbrev pub TableUnsound : Asks → Tables → Type 0
+abbrev pub TableUnsound : TablesAsked → Tables → Type 0
 TableUnsound theRegister T = registerSound (T .register) ≡ false
 TableUnsound theLengths T = ⊥
 TableUnsound bothTables T = (registerSound (T .register) ≡ false) ⊎ (nodesSound (partCount T) (T .nodes) ≡ false)

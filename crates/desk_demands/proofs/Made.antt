@@ -29,6 +29,7 @@ use Rattle.desk_input.specs.Lines.{linesOf, answered}
 use Rattle.desk_lists.specs.Typed.{Typed, typed, stopped, lookedUp}
 use Rattle.desk_lines.specs.Sizes.{emptyDesk, begunDesk}
 use Rattle.desk_lines.specs.Desk.{Answered, called, registerLine, writeLine, withList, callOf, asked, askLine, atDesk, leftBy}
+use Rattle.desk_lines.proofs.Answering.{leaves-same}
 use Rattle.desk_demands.specs.Text.{lentPlaces, lentSheet}
 use Rattle.desk_demands.specs.Made.{lookups, callWith, callBehind, callsOfLine, callsOf, deskOf}
 use Rattle.desk_demands.specs.Demands.{DeskIsCatalogue, DesksTell}
@@ -41,15 +42,9 @@ unfolding run
 run-append [] ds T = refl
 run-append (c ∷ cs) ds T = run-append cs ds (memory (planOf c T) T)
 
--- done or refused, a call that leaves what was there
-same-left : {A : Type 0} (r : Reply) (a : A) → leaves r a a ≡ a
-unfolding leaves
-same-left (done v) a = refl
-same-left (refused n v) a = refl
-
 look-keeps : (n : List ℕ) (T : Tables) → memory (planOf (lookUp n) T) T ≡ T
 unfolding planOf lookingUp memory
-look-keeps n T = same-left (answer (planOf (lookUp n) T)) T
+look-keeps n T = leaves-same (answer (planOf (lookUp n) T)) T
 
 lookups-keep : (fs : List (List ℕ)) (T : Tables) → run (lookups (T .register) fs) T ≡ T
 unfolding run lookups leaves
@@ -81,7 +76,7 @@ module _ (T : Tables) where
   -- a call that sets something down leaves the tables
   all-keeps : (c : Call) → planOf c T .after ≡ T → afterCall c ≡ T
   unfolding afterCall memory
-  all-keeps c e = ap (leaves (answer (planOf c T)) T) e ∙ same-left (answer (planOf c T)) T
+  all-keeps c e = ap (leaves (answer (planOf c T)) T) e ∙ leaves-same (answer (planOf c T)) T
 
   call-left : (x t : ℕ) (o l : List ℕ) → afterCall (callWith x t o l) ≡ asked x t [] T l .after
   unfolding callWith asked called callOf afterCall planOf

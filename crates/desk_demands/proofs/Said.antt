@@ -27,7 +27,6 @@ use Rattle.demands.specs.Model.{answering, listingOf}
 use Rattle.demands.specs.Demand1.{told}
 use Rattle.demands.proofs.Brought.{Brought, brought}
 use Rattle.demands.proofs.Sizes.{sizes}
-use Rattle.demands.proofs.Told.{call-told}
 use Rattle.desk_lines.specs.Sizes.{deskSlots, deskNodes, outputPlaces}
 use Rattle.desk_text.specs.Letters as letter
 use Rattle.desk_text.specs.Amounts.{amountOf}
@@ -37,6 +36,7 @@ use Rattle.desk_lines.specs.Desk.{Answered, called, shown, registerLine, writeL
 use Rattle.desk_demands.specs.Made.{deskOf}
 use Rattle.desk_demands.proofs.Made.{desk-is-catalogue}
 use Rattle.desk_demands.proofs.Outputs.{done-value}
+use Rattle.desk_demands.proofs.Told.{is-told}
 use Rattle.desk_demands.specs.Demands.{numbersOf, Said, other, reply, NeverSaid}
 
 -- a number is one of some
@@ -92,12 +92,9 @@ front-among ns n (done p) q (stopped k v) f g h = h
 
 -- Tables of the desk's size that have m
 module _ {T : Tables} {m : Contents} (b : Brought T m) (hs : slotCount (T .register) ≡ deskSlots) (hr : size (T .nodes) ≡ deskNodes) where
-  is-told : (c : Call) → answer (planOf c T) ≡ told deskSlots deskNodes m c
-  is-told c = call-told b deskSlots deskNodes hs hr c
-
   -- what a call answers is among some numbers if what is told is
   told-among : (ns : List ℕ) (c : Call) → Among ns (numberOf (told deskSlots deskNodes m c)) → Among ns (numberOf (answer (planOf c T)))
-  told-among ns c h = subst (λ (r : Reply). Among ns (numberOf r)) (sym (is-told c)) h
+  told-among ns c h = subst (λ (r : Reply). Among ns (numberOf r)) (sym (is-told b hs hr c)) h
 
   -- P and W
   register-among : (n : List ℕ) → Among (numbersOf letter.registers) (numberOf (answer (planOf (registerPart n) T)))
@@ -120,7 +117,7 @@ module _ {T : Tables} {m : Contents} (b : Brought T m) (hs : slotCount (T .regis
 
     look-known : (n : List ℕ) (p : ℕ) → answer (planOf (lookUp n) T) ≡ done p → p ≤ length (m .parts)
     unfolding told placeIn
-    look-known n p e = omega (arith, done-value _ _ p (sym (is-told (lookUp n)) ∙ e), place-known 1 n (m .parts) (omega arith))
+    look-known n p e = omega (arith, done-value _ _ p (sym (is-told b hs hr (lookUp n)) ∙ e), place-known 1 n (m .parts) (omega arith))
 
     typed-among : (fs : List (List ℕ)) → TypedAmong ns (length (m .parts)) (lookedUp (T .register) fs)
     unfolding lookedUp planOf answer

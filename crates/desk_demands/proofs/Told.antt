@@ -55,7 +55,7 @@ EndsIf m x (stopped n v) cs = Ends m x n v cs
 
 -- Tables of the desk's size that have m
 module _ {T : Tables} {m : Contents} (b : Brought T m) (hs : slotCount (T .register) ≡ deskSlots) (hr : size (T .nodes) ≡ deskNodes) where
-  is-told : (c : Call) → answer (planOf c T) ≡ told deskSlots deskNodes m c
+  pub is-told : (c : Call) → answer (planOf c T) ≡ told deskSlots deskNodes m c
   is-told c = call-told b deskSlots deskNodes hs hr c
 
   -- a call that shows nothing, and one that sets something down

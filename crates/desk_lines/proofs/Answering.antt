@@ -92,7 +92,7 @@ pub shown-put : {old new : List ℕ} {r : ℕ} (x : ℕ) (print : List ℕ → L
 unfolding shown
 shown-put x print p o a m q h = rw (← q .answers, ← q .lent) h
 
-leaves-same : {A : Type 0} (b : Reply) (m : A) → leaves b m m ≡ m
+pub leaves-same : {A : Type 0} (b : Reply) (m : A) → leaves b m m ≡ m
 unfolding leaves
 leaves-same (done v) m = refl
 leaves-same (refused n v) m = refl
