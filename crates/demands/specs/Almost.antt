@@ -15,13 +15,13 @@ use Rattle.sheet.specs.Sheet.{Contents}
 use Rattle.catalogue.specs.Calls.{almostKits}
 use Rattle.demands.specs.Model.{Allowed, Catalogue, almostOf, answering, entered, tablesOf}
 
--- "exactly those kits whose shortfall is at most d". Proof: Almost, `answering-almost`
+-- [14.8] "exactly those kits whose shortfall is at most d". Proof: Almost, `answering-almost`
 abbrev pub AnsweringAlmost : Type 0
 AnsweringAlmost =
     (d : ℕ) (bin : List ℕ) (m : Contents) (k : Kit) →
     List·Memᴰ k (answering (isAlmost d) bin m) ↔ (List·Memᴰ k (m .kits) × (shortfall (units bin) (k .row) ≤ d))
 
--- "with the shortfall of each in a second lent output": place by place of the same kit. Proof: Almost, `shown-in-step`
+-- [14.8] "with the shortfall of each in a second lent output": place by place of the same kit. Proof: Almost, `shown-in-step`
 abbrev pub ShownInStep : Type 0
 ShownInStep =
     (bin : List ℕ) (ks : List Kit) (i : ℕ) → i < length ks →
@@ -45,7 +45,7 @@ NothingLeaves =
 abbrev pub MostIsAll : Type 0
 MostIsAll = (a : Catalogue) (bin : List ℕ) → Allowed a → answering (isAlmost mostShort) bin (entered a) ≡ inOrder (entered a .kits)
 
--- the reply, and both outputs afterwards. Proof: Almost, `almost-answers`
+-- [14.8] the reply, and both outputs afterwards. Proof: Almost, `almost-answers`
 abbrev pub AlmostAnswers : Type 0
 AlmostAnswers =
     (a : Catalogue) (d : ℕ) (bin : List ℕ) (o : Both) → Allowed a →

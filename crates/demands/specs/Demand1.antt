@@ -64,7 +64,7 @@ told slots room m (allAlmost d l o) = answer (almostOf d l m o)
 told slots room m (writeSheet o) = answer (setDown [] (encode (listedIn m)) o)
 told slots room m (readSheet s) = decide (sheetRefusals s slots room) (length (said (decode s) .kits))
 
--- Proof: Told, `told-exactly`
+-- [14.2] Proof: Told, `told-exactly`
 abbrev pub ToldExactly : Type 0
 ToldExactly = (a : Catalogue) (c : Call) → Allowed a → answer (planOf c (tablesOf a)) ≡ told (a .slots) (a .room) (entered a) c
 
@@ -104,11 +104,11 @@ TableUnsound theRegister T = registerSound (T .register) ≡ false
 TableUnsound theLengths T = ⊥
 TableUnsound bothTables T = (registerSound (T .register) ≡ false) ⊎ (nodesSound (partCount T) (T .nodes) ≡ false)
 
--- 1 exactly where a length is wrong, whatever else is wrong. Proof: Damaged, `one-exactly`
+-- [14.3] 1 exactly where a length is wrong, whatever else is wrong. Proof: Damaged, `one-exactly`
 abbrev pub OneExactly : Type 0
 OneExactly = (c : Call) (T : Tables) → (numberOf (answer (planOf c T)) ≡ 1) ↔ LengthWrong (asksOf c) T
 
--- 2 exactly where the lengths are right and a table is not sound. Proof: Damaged, `two-exactly`
+-- [14.3] 2 exactly where the lengths are right and a table is not sound. Proof: Damaged, `two-exactly`
 abbrev pub TwoExactly : Type 0
 TwoExactly =
     (c : Call) (T : Tables) → (numberOf (answer (planOf c T)) ≡ 2) ↔ ((LengthWrong (asksOf c) T → ⊥) × TableUnsound (asksOf c) T)
@@ -116,12 +116,12 @@ TwoExactly =
 ------------------------------------------------------------------------
 -- Of any call there may be: these two hold of every list of cases, whatever it says; with the statements above they say what a refusal is
 
--- "A call is refused in the cases laid down and in no others, with the number laid down": a call is refused with number n and value v
+-- [14.4] "A call is refused in the cases laid down and in no others, with the number laid down": a call is refused with number n and value v
 -- exactly when, of its refusals in the paper's order, the first that is given has them. Proof: Refusals, `refused-exactly`
 abbrev pub RefusedExactly : Type 0
 RefusedExactly = (c : Call) (T : Tables) (n v : ℕ) → (answer (planOf c T) ≡ refused n v) ↔ Given n v (planOf c T .cases)
 
--- "and then the tables .. are byte for byte what they were". Proof: Refusals, `refusal-keeps`
+-- [14.4] "and then the tables .. are byte for byte what they were". Proof: Refusals, `refusal-keeps`
 abbrev pub RefusalKeeps : Type 0
 RefusalKeeps = (c : Call) (T : Tables) (n v : ℕ) → answer (planOf c T) ≡ refused n v → memory (planOf c T) T ≡ T
 
@@ -141,7 +141,7 @@ settingDown (listing question l) T o = allKits question l T o
 settingDown (listingAlmost d l) T o = almostKits d l T o
 settingDown sheet T o = writing T o
 
--- "the tables and output are byte for byte what they were": the output, or both. Proof: Refusals, `refusal-keeps-output`
+-- [14.4] "the tables and output are byte for byte what they were": the output, or both. Proof: Refusals, `refusal-keeps-output`
 abbrev pub RefusalKeepsOutput : Type 0
 RefusalKeepsOutput =
     (x : SetsDown) (T : Tables) (o : Output x) (n v : ℕ) → answer (settingDown x T o) ≡ refused n v → memory (settingDown x T o) o ≡ o

@@ -72,11 +72,11 @@ ListingShows =
     length ts ≤ length o → (answer (allKits question l T o) ≡ done (length ts))
     × (memory (allKits question l T o) o ≡ ts ++ drop (length ts) o)
 
--- "Part numbers are one only if every character agrees". Proof: Questions, `one-only-if`
+-- [14.9] "Part numbers are one only if every character agrees". Proof: Questions, `one-only-if`
 abbrev pub OneOnlyIf : Type 0
 OneOnlyIf = (T : Tables) (n m : List ℕ) (p : ℕ) → answer (planOf (lookUp n) T) ≡ done p → answer (planOf (lookUp m) T) ≡ done p → n ≡ m
 
--- "Show the number at a place: the very stretch of the register that holds the number": where it is not refused, what stands in the stretch
+-- [9.4] "Show the number at a place: the very stretch of the register that holds the number": where it is not refused, what stands in the stretch
 -- is the number of that place; "an empty stretch where refused". Proof: Shown, `shows-number`, `shows-nothing`
 abbrev pub ShowsNumber : Type 0
 ShowsNumber =
@@ -88,40 +88,43 @@ ShowsNothing = (R : List ℕ) (p : ℕ) → isRefused (answer (showing p R)) ≡
 ------------------------------------------------------------------------
 -- The same from any list of calls, in terms of what the accepted calls left, and never of a table
 
--- these are all that fit, or contain the list; each once, in the fixed order. Proof: Answers, `answering-fits`, `answering-contains`,
+-- [14.6] these are all that fit, or contain the list; each once, in the fixed order. Proof: Answers, `answering-fits`, `answering-contains`,
 -- `answering-in-order`
 abbrev pub AnsweringFits : Type 0
 AnsweringFits =
     (bin : List ℕ) (m : Contents) (k : Kit) → List·Memᴰ k (answering isWithin bin m) ↔ (List·Memᴰ k (m .kits) × Within (k .row) (units bin))
 
+-- [14.6]
 abbrev pub AnsweringContains : Type 0
 AnsweringContains =
     (wanted : List ℕ) (m : Contents) (k : Kit) → List·Memᴰ k (answering isContaining wanted m) ↔
     (List·Memᴰ k (m .kits) × Within (units wanted) (k .row))
 
+-- [14.6]
 abbrev pub AnsweringInOrder : Type 0
 AnsweringInOrder = (a : Catalogue) (question : Question) (l : List ℕ) → Allowed a → InOrder (answering question l (entered a))
 
--- any: the tag of the first of them, and 0 exactly when there is none; what else is answered, the list alone decides. Proof: Answers,
+-- [14.7] any: the tag of the first of them, and 0 exactly when there is none; what else is answered, the list alone decides. Proof: Answers,
 -- `any-answers`, `none-answers`
 abbrev pub AnyAnswers : Type 0
 AnyAnswers =
     (a : Catalogue) (question : Question) (l : List ℕ) → Allowed a → answer (anyKit question l (tablesOf a)) ≡ decide
     (listFaults (length (entered a .parts)) l) (firstTag (answering question l (entered a)))
 
+-- [14.7]
 abbrev pub NoneAnswers : Type 0
 NoneAnswers =
     (a : Catalogue) (question : Question) (l : List ℕ) → Allowed a → (firstTag (answering question l (entered a)) ≡ 0) ↔
     (answering question l (entered a) ≡ [])
 
--- all: the tags of all of them. Proof: Answers, `all-answers`
+-- [14.6] all: the tags of all of them. Proof: Answers, `all-answers`
 abbrev pub AllAnswers : Type 0
 AllAnswers =
     (a : Catalogue) (question : Question) (l o : List ℕ) → Allowed a →
     (answer (allKits question l (tablesOf a) o) ≡ answer (listingOf question l (entered a) o))
     × (memory (allKits question l (tablesOf a) o) o ≡ memory (listingOf question l (entered a) o) o)
 
--- the number of a place is the one that was registered there. Proof: Shown, `shows-entered`
+-- [14.9] the number of a place is the one that was registered there. Proof: Shown, `shows-entered`
 abbrev pub ShowsEntered : Type 0
 ShowsEntered =
     (a : Catalogue) (p : ℕ) → Allowed a → answer (planOf (showAt p) (tablesOf a)) ≡ done 0 →

@@ -223,5 +223,6 @@ SheetLimits =
     × (readIn 3 4 largerSheet ≡ refused 12 5)
     × (readIn 3 5 largerSheet ≡ done 3)
 
+-- [15.1]
 abbrev pub Limits : Type 0
 Limits = NumberLimits × LengthLimits × PathLimits × ListLimits × RoomLimits × OrderOfRefusals × NodeWords × SheetLimits

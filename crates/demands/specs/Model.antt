@@ -84,6 +84,7 @@ entered a = model (log (a .calls) (begun a)) (has [] [])
 abbrev pub listedIn : Contents → Contents
 listedIn m = has (m .parts) (inOrder (m .kits))
 
+-- [14.5]
 abbrev pub HasWhatWasEntered : Type 0
 HasWhatWasEntered = (a : Catalogue) → Allowed a → contents (tablesOf a) ≡ listedIn (entered a)
 

@@ -36,7 +36,7 @@ listedBy question rs r = let p = allKits question (listOf r) (holding rs) (0 ∷
 unfoldable pub struck : List (List ℕ) → List ℕ → Reply × ℕ
 struck rs r = let p = deleting (listOf r) (holding rs) in (answer p, length (usedNodes (memory p (holding rs) .nodes)))
 
--- row by row: kits held (units), question, answer
+-- [14.16] row by row: kits held (units), question, answer
 abbrev pub ShortCases : Type 0
 ShortCases =
     -- none; within {1}; none
@@ -67,7 +67,7 @@ askedAlmost d rs r =
     let p = almostKits d (listOf r) (holding rs) o in
     (answer p, memory p o)
 
--- (1) and (1, 1, 1) lack one unit and three, and three units too many of another part pay for none; (1, 1) and (1, 3) lack one each,
+-- [14.16] (1) and (1, 1, 1) lack one unit and three, and three units too many of another part pay for none; (1, 1) and (1, 3) lack one each,
 -- whichever part it is. Proof: proofs/ShortCases, `almost-cases`
 abbrev pub AlmostCases : Type 0
 AlmostCases =
@@ -119,7 +119,7 @@ exampleSays =
 abbrev pub otherTables : Tables
 otherTables = tables (replicate 96 7) (replicate 18 7)
 
--- the replies, what b lists, the sheet, and the sheet read back. Proof: proofs/ShortCases, `desk-example`
+-- [14.16] the replies, what b lists, the sheet, and the sheet read back. Proof: proofs/ShortCases, `desk-example`
 abbrev pub DeskExample : Type 0
 DeskExample =
     (replies entries (desk []) ≡ done 1 ∷ done 2 ∷ refused 9 1 ∷ done 3 ∷ done 3 ∷ done 0 ∷ done 1 ∷ refused 9 9 ∷ refused 10 0 ∷ [])

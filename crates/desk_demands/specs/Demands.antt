@@ -26,12 +26,12 @@ use Rattle.desk_lines.specs.Desk.{sheetText, atDesk, leftBy}
 use Rattle.desk_demands.specs.Text.{repliesTo}
 use Rattle.desk_demands.specs.Made.{callsOfLine, deskOf, tablesAfter}
 
--- After any input the desk has the tables of a catalogue that was begun empty and brought on by the calls that its lines make: whatever the
+-- [14.17] After any input the desk has the tables of a catalogue that was begun empty and brought on by the calls that its lines make: whatever the
 -- demands say of such catalogues, they say of the desk. Proof: Made, `desk-is-catalogue`
 abbrev pub DeskIsCatalogue : Type 0
 DeskIsCatalogue = (input : List ℕ) → (tablesAfter input ≡ tablesOf (deskOf input)) × Allowed (deskOf input)
 
--- DEMAND 3 of two desks: the sheets that W writes, with room, agree in every byte exactly when what the accepted calls left is the same.
+-- [14.18] DEMAND 3 of two desks: the sheets that W writes, with room, agree in every byte exactly when what the accepted calls left is the same.
 -- Proof: Made, `desks-tell`
 abbrev pub DesksTell : Type 0
 DesksTell =
@@ -70,7 +70,7 @@ abbrev pub letterOf : Parsed → ℕ
 letterOf none = 0
 letterOf (line x t fs) = x
 
--- after any input, to any line, whatever outputs are lent. Proof: Told, `desk-told`
+-- [14.19] after any input, to any line, whatever outputs are lent. Proof: Told, `desk-told`
 abbrev pub DeskTold : Type 0
 DeskTold =
     (input l o s : List ℕ) →
@@ -98,16 +98,16 @@ pub data Said : List ℕ → Type 0 where
   other : Said otherLine
   reply : (x n v : ℕ) (rest : List ℕ) → anyb (eqb n) (numbersOf x) ≡ true → Said (replyLine x n v rest)
 
--- (its bytes tell the letter and the number) Proof: Numbers, `one-number`
+-- [13.19] (its bytes tell the letter and the number) Proof: Numbers, `one-number`
 abbrev pub OneNumber : Type 0
 OneNumber =
     (x n v : ℕ) (rest : List ℕ) (x′ n′ v′ : ℕ) (rest′ : List ℕ) → replyLine x n v rest ≡ replyLine x′ n′ v′ rest′ → (x ≡ x′) × (n ≡ n′)
 
--- after any input, to any line, with the desk's places. Proof: Said, `never-said`
+-- [13.19] after any input, to any line, with the desk's places. Proof: Said, `never-said`
 abbrev pub NeverSaid : Type 0
 NeverSaid = (input l o s : List ℕ) → outputPlaces ≤ length o → Said (atDesk (parsed l) o s (tablesAfter input) .says)
 
--- What the outputs held before a line never shows in its reply, so it does not matter what is lent but how much. Proof: Outputs,
+-- [14.19] What the outputs held before a line never shows in its reply, so it does not matter what is lent but how much. Proof: Outputs,
 -- `outputs-never-show`
 abbrev pub OutputsNeverShow : Type 0
 OutputsNeverShow =

@@ -47,7 +47,7 @@ sessionReplies =
     ∷ "K 4 0"
     ∷ "W 0 34 4B495400010003053030373431033734310434303136000200090101010005010201" ∷ []
 
--- at a desk with room for what the session takes: four parts, six nodes, two places and 34 bytes. Proof: proofs/Session, `session-replied`
+-- [14.20] at a desk with room for what the session takes: four parts, six nodes, two places and 34 bytes. Proof: proofs/Session, `session-replied`
 abbrev pub SessionReplied : Type 0
 SessionReplied = replyText 4 6 2 34 (textOf session) ≡ textOf sessionReplies
 
@@ -59,7 +59,7 @@ lineTyped l = parsed (bytesOf l)
 abbrev pub longLine : ℕ → List ℕ
 longLine n = bytesOf "P " ++ replicate n 0x30
 
--- Proof: proofs/Session, `line-cases`
+-- [14.20] Proof: proofs/Session, `line-cases`
 abbrev pub LineCases : Type 0
 LineCases =
     -- "A line is at most 512 bytes before its line feed"

@@ -70,17 +70,17 @@ recordAtFault c bs = isFault (one (recordSize placeBytes) (newKit placeBytes (le
 abbrev pub ItemsMakeSheet : Type 0
 ItemsMakeSheet = (c : Contents) → concat (itemsOf c) ≡ encode c
 
--- "The end is at fault when bytes remain". Proof: proofs/Faults, `fault-behind`
+-- [12.14] "The end is at fault when bytes remain". Proof: proofs/Faults, `fault-behind`
 abbrev pub FaultBehind : Type 0
 FaultBehind = (s : List ℕ) (x : ℕ) (bs : List ℕ) → Bytes s → isFault (decode s) ≡ false → decode (s ++ (x ∷ bs)) ≡ fault (length s)
 
--- "An item is at fault when cut short": of an accepted sheet, cut to its first n bytes. Proof: proofs/Faults, `fault-at-cut`
+-- [12.14] "An item is at fault when cut short": of an accepted sheet, cut to its first n bytes. Proof: proofs/Faults, `fault-at-cut`
 abbrev pub FaultAtCut : Type 0
 FaultAtCut =
     (s : List ℕ) (n : ℕ) → Bytes s → isFault (decode s) ≡ false → n < length s →
     decode (take n s) ≡ fault (startOfCut (itemsOf (said (decode s))) n)
 
--- Mark, version or part count at fault, behind what is right. Proof: proofs/Rules, `fault-at-opening`
+-- [12.14] Mark, version or part count at fault, behind what is right. Proof: proofs/Rules, `fault-at-opening`
 abbrev pub FaultAtOpening : Type 0
 FaultAtOpening =
     (bs : List ℕ) →
@@ -88,14 +88,14 @@ FaultAtOpening =
     × (isFault (one (bytes twoBytes) isVersion bs 0) ≡ true → decode (mark ++ bs) ≡ fault (length mark))
     × (isFault (one (bytes twoBytes) goodPartCount bs 0) ≡ true → decode (mark ++ (two version ++ bs)) ≡ fault (length (mark ++ two version)))
 
--- The items of an accepted sheet to its last number, more parts announced, and behind them a number at fault. Proof: proofs/Rules, `fault-at-number`
+-- [12.14] The items of an accepted sheet to its last number, more parts announced, and behind them a number at fault. Proof: proofs/Rules, `fault-at-number`
 abbrev pub FaultAtNumber : Type 0
 FaultAtNumber =
     (s : List ℕ) (n : ℕ) (bs : List ℕ) → Bytes s → isFault (decode s) ≡ false →
     let ps = said (decode s) .parts in
     length ps < n → n ≤ mostParts → numberAtFault ps bs ≡ true → decode (concat (partItems n ps) ++ bs) ≡ fault (length (concat (partItems n ps)))
 
--- All its items, more kits announced, and behind them a record at fault. Proof: proofs/Rules, `fault-at-record`
+-- [12.14] All its items, more kits announced, and behind them a record at fault. Proof: proofs/Rules, `fault-at-record`
 abbrev pub FaultAtRecord : Type 0
 FaultAtRecord =
     (s : List ℕ) (n : ℕ) (bs : List ℕ) → Bytes s → isFault (decode s) ≡ false →
