@@ -130,12 +130,12 @@ all-long n (k ∷ ks) h =
     )
 
 -- Places
-place-most : (k : ℕ) (n : List ℕ) (ps : List (List ℕ)) → placeFrom k n ps ≤ k + length ps
+pub place-known : (k : ℕ) (n : List ℕ) (ps : List (List ℕ)) → 0 < k → placeFrom k n ps < k + length ps
 unfolding placeFrom
-place-most k n [] = omega arith
-place-most k n (p ∷ ps) =
-    by-cond (λ (x : ℕ). x ≤ k + suc (length ps)) (eqList n p) k (placeFrom (suc k) n ps) (λ _. omega arith)
-    (λ _. omega (arith, place-most (suc k) n ps))
+place-known k n [] h = omega arith
+place-known k n (p ∷ ps) h =
+    by-cond (λ (x : ℕ). x < k + suc (length ps)) (eqList n p) k (placeFrom (suc k) n ps) (λ _. omega arith)
+    (λ _. omega (arith, place-known (suc k) n ps (omega arith)))
 
 -- The refusals of what is lent
 lengths-plain : (T : Tables) → Every Plain (lengths T)
@@ -195,7 +195,7 @@ down-small cs xs o p f = small-front limit some-limit cs _ _ p (λ e. small-step
 module _ (n R : List ℕ) where
   place-small : Ready R → placeIn n (partsOf R) < limit
   unfolding placeIn
-  place-small r = omega (arith, place-most 1 n (partsOf R), few-parts R r)
+  place-small r = omega (arith, place-known 1 n (partsOf R) (omega arith), few-parts R r)
 
   pub registering-small : valueOf (answer (registering n R)) < limit
   unfolding answer registering numberRefusals

@@ -2,16 +2,16 @@
 use mathlib.Core.Path.{_≡_, refl, sym, ap, subst, _∙_}
 use mathlib.Core.Bool.{true, false}
 use mathlib.Core.List.{List, [], _∷_, map}
-use Prim.Native.Nat.{ℕ, suc, _+_, _≤_, _<_}
+use Prim.Native.Nat.{ℕ, suc, _≤_}
 use native.Mathlib.Omega.{arith}
 use lib.ListN.{length, getD, length-map}
 use lib.Dec.{eqb, ltb}
 use borrow.Author.Tests.{eqb-true, ltb-true}
-use Rattle.ground.specs.Lists.{anyb, eqList, from, keep}
+use Rattle.ground.specs.Lists.{anyb, from, keep}
 use Rattle.ground.specs.Calls.{Case, Plan, Reply, done, refused, numberOf, decide, answer, setDown}
 use Rattle.ground.specs.Tables.{Tables}
 use Rattle.ground.proofs.Laws.{by-cond, length-from}
-use Rattle.register.specs.Register.{slotCount, placeFrom, placeIn}
+use Rattle.register.specs.Register.{slotCount, placeIn}
 use Rattle.register.specs.Calls.{lookingUp}
 use Rattle.kits.specs.Kits.{units, lineFaults, linesFaults, listFaults}
 use Rattle.nodes.specs.Nodes.{size, nodesOf, tagged}
@@ -25,6 +25,7 @@ use Rattle.catalogue.specs.Calls.{Call, Question, registerPart, lookUp, insertK
 use Rattle.catalogue.specs.Calls.{allContaining, writeSheet, planOf, inserting, finding, deleting, anyKit}
 use Rattle.demands.specs.Model.{answering, listingOf}
 use Rattle.demands.specs.Demand1.{told}
+use Rattle.demands.proofs.Values.{place-known}
 use Rattle.demands.proofs.Brought.{Brought, brought}
 use Rattle.demands.proofs.Sizes.{sizes}
 use Rattle.desk_lines.specs.Sizes.{deskSlots, deskNodes, outputPlaces}
@@ -70,13 +71,6 @@ lines-among ns n prev k (p ∷ q ∷ l) a b h =
 list-among : (ns : List ℕ) (n : ℕ) (l : List ℕ) → Among ns 4 → Among ns 6 → Known n l → Every (GivenAmong ns) (listFaults n l)
 unfolding listFaults
 list-among ns n l a b h = also (λ _. a) (lines-among ns n 0 1 l a b h)
-
-place-known : (k : ℕ) (n : List ℕ) (ps : List (List ℕ)) → 0 < k → placeFrom k n ps < k + length ps
-unfolding placeFrom
-place-known k n [] h = omega arith
-place-known k n (p ∷ ps) h =
-    by-cond (λ (x : ℕ). x < k + suc (length ps)) (eqList n p) k (placeFrom (suc k) n ps) (λ _. omega arith)
-    (λ _. omega (arith, place-known (suc k) n ps (omega arith)))
 
 -- what a typed list comes to: places that are known, or one of some numbers
 abbrev TypedAmong : List ℕ → ℕ → Typed → Type 0
