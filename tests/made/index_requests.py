@@ -44,6 +44,7 @@ def tag_or_most(letter, tag):
 def limits():
     """Every limit of the node table, of a list and of the calls on kits."""
     yield from table_lengths()
+    yield from emptied_tables()
     yield from tables_in_order()
     yield from broken_tables()
     yield from broken_chains()
@@ -64,6 +65,14 @@ def table_lengths():
         for letter in ALL_LETTERS:
             yield Request(letter, 7, R=register, N=[0] * length, L=[1, 1], **some_outputs(letter),
                           O=b"before the sheet", note="node table of %d words" % length)
+
+
+def emptied_tables():
+    """Tables that hold parts and kits: with a slot and nodes to spare, and with none."""
+    for slots, node_count in ((3, 6), (2, 4)):
+        yield Request("e", R=parts_register(2, slots),
+                      N=table(node_count, ((1,), 4), ((1, 2, 2), 9)),
+                      note="%d slots and %d nodes emptied" % (slots, node_count))
 
 
 def pairs_of_tables():

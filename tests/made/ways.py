@@ -40,6 +40,17 @@ def largest_lent(asked, came):
                                  and len(asked.blocks["N"]) == MOST_NODES * NODE_WORDS}
 
 
+def emptied(asked, came):
+    """Tables that were filled, and those that were to their last slot and their last node."""
+    register_bytes, words = asked.blocks["R"], asked.blocks["N"]
+    filled = came.done() and any(register_bytes) and any(words)
+    return {
+        "filled tables emptied": filled,
+        "full tables emptied": filled and any(register_bytes[-SLOT_BYTES:])
+                               and not index.free_count(words),
+    }
+
+
 def number_given(asked, came):
     """Part numbers of 24 and 25 bytes."""
     length, bad = len(asked.blocks["I"]), came.number == BAD_NUMBER
@@ -167,7 +178,7 @@ def sheet_read(asked, came):
 
 # The limits of documents 01 and 02, as ways of each call; and those that take large requests too.
 LIMITS = {
-    "e": [], "p": [number_given, registered], "l": [number_given], "n": [place_given],
+    "e": [emptied], "p": [number_given, registered], "l": [number_given], "n": [place_given],
     "k": [tables_lent, list_given, entered], "f": [tables_lent, list_given],
     "d": [tables_lent, list_given, struck_out], "w": [tables_lent, list_given, first_found],
     "c": [tables_lent, list_given, first_found], "W": [tables_lent, list_given, output_into("P")],
@@ -177,7 +188,7 @@ LIMITS = {
 ALL_WAYS = {letter: ways + [largest_lent] if tables_lent in ways else ways
             for letter, ways in LIMITS.items()}
 # Of these the stored run has all: with more of them it would be another one.
-STORED_WAYS = {"a": [almost_filled]}
+STORED_WAYS = {"e": [emptied], "a": [almost_filled]}
 # Ways that requests by chance hardly ever go.
 LEFT_TO_LIMITS = {
     "a kit of 64 units", "a kit of 65 units", "a shortfall of 64", "bytes behind the end",

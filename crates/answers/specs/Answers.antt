@@ -3,6 +3,7 @@ use Rattle.ground.specs.Calls.{Reply, done, refused}
 use Rattle.answers.specs.declared.Answer.{Answer}
 use Rattle.answers.specs.declared.Answer.the-variants as v
 
+-- [7.8] "Each answer is a number (0 for done) and a value"
 abbrev pub reply : Answer → Reply
 reply (v.Done x) = done x
 reply v.WrongLength = refused 1 0

@@ -27,7 +27,7 @@ use Rattle.answers.specs.Answers.{reply}
 use Rattle.ground.specs.Tables.{Tables, tables}
 use Rattle.tables.specs.Lent.{partCount, lengths, lentBoth, lentList}
 
--- what the catalogue has
+-- [1.3] what the catalogue has
 abbrev pub contents : Tables → Contents
 contents T = contentsOf (T .register) (T .nodes)
 
@@ -35,11 +35,12 @@ contents T = contentsOf (T .register) (T .nodes)
 abbrev pub tagOf : Tables → List ℕ → ℕ
 tagOf T l = tagIn (units l) (held (T .nodes))
 
--- "Empty both tables: zeros"; "Emptying and reading give 1 but never 2"
+-- [10.1] "Empty both tables: zeros"; "Emptying and reading give 1 but never 2"
 unfoldable pub emptying : Tables → Plan Tables
 emptying T = plan (lengths T) 0 (tables (zeroed (T .register)) (zeroed (T .nodes)))
 
--- "Insert list and tag: nodes newly taken": "then 8; then 4 for odd length; then line by line 4, 5, 6; then 7, 9, 10, .., 12"
+-- [8.7, 8.8, 8.16, 10.2] "Insert list and tag: nodes newly taken": "then 8; then 4 for odd length; then line by line 4, 5, 6; then 7, 9,
+-- 10, .., 12"
 unfoldable pub inserting : List ℕ → ℕ → Tables → Plan Tables
 inserting l t T =
     plan (lentBoth T
@@ -50,31 +51,37 @@ inserting l t T =
     (lacks (T .nodes) 0 (units l))
     (tables (T .register) (enter (T .nodes) 0 (units l) t))
 
--- "Find a list, delete a list: its tag"
+-- [10.3] "Find a list, delete a list: its tag"
 unfoldable pub finding : List ℕ → Tables → Plan Tables
 finding l T = plan (lentList T l ++ missingRefusals (units l) (T .nodes)) (tagOf T l) T
 
+-- [10.4] "delete a list: its tag"
 unfoldable pub deleting : List ℕ → Tables → Plan Tables
 deleting l T = plan (lentList T l ++ missingRefusals (units l) (T .nodes)) (tagOf T l) (tables (T .register) (strike (T .nodes) (units l)))
 
--- "Any kit within the bin; any kit containing the list": question is isWithin or isContaining
-unfoldable pub anyKit : (List ℕ → Kit → Bool) → List ℕ → Tables → Plan Tables
+-- a question that is asked of a list's units and a kit: `isWithin`, `isContaining` or `isAlmost d`
+abbrev pub Question : Type 0
+Question = List ℕ → Kit → Bool
+
+-- [10.5, 10.6] "Any kit within the bin; any kit containing the list"
+unfoldable pub anyKit : Question → List ℕ → Tables → Plan Tables
 anyKit question l T = plan (lentList T l) (anyOf question l (T .nodes)) T
 
--- "All such kits": set down at the start of a lent output of 16-bit numbers
-unfoldable pub allKits : (List ℕ → Kit → Bool) → List ℕ → Tables → List ℕ → Plan (List ℕ)
+-- [10.7, 10.8] "All such kits": set down at the start of a lent output of 16-bit numbers
+unfoldable pub allKits : Question → List ℕ → Tables → List ℕ → Plan (List ℕ)
 allKits question l T o = setDown (lentList T l) (allOf question l (T .nodes)) o
 
--- "list the tags of exactly those kits whose shortfall is at most d .. with the shortfall of each in a second lent output": "new 14, d
--- above 64, after the list checks and before 12"
+-- [8.14, 10.9] "list the tags of exactly those kits whose shortfall is at most d .. with the shortfall of each in a second lent output":
+-- "new 14, d above 64, after the list checks and before 12"
 unfoldable pub almostKits : ℕ → List ℕ → Tables → Both → Plan Both
 almostKits d l T o = listAlmost (lentList T l ++ (given (ltb mostShort d) 14 0 ∷ [])) d l (T .nodes) o
 
--- "Write the sheet at the start of a lent output: bytes written"
+-- [10.10] "Write the sheet at the start of a lent output: bytes written"
 unfoldable pub writing : Tables → List ℕ → Plan (List ℕ)
 writing T o = setDown (lentBoth T) (encode (contents T)) o
 
--- "Read a sheet: kits read": "1 for each table, then 13, then 12"; "Reading leaves the tables as if emptied, then filled in sheet order"
+-- [10.11] "Read a sheet: kits read": "1 for each table, then 13, then 12"; "Reading leaves the tables as if emptied, then filled in sheet
+-- order"
 unfoldable pub reading : List ℕ → Tables → Plan Tables
 reading s T =
     plan (lengths T ++ sheetRefusals s (slotCount (T .register)) (size (T .nodes)))

@@ -1,3 +1,2 @@
--- Document 01, "Calls and what they answer", and the three demands.
+-- Document 01, "Calls and what they answer".
 pub mod Calls
-pub mod Demands

@@ -24,7 +24,8 @@ use Rattle.ground.specs.Tables.{Tables}
 use Rattle.tables.specs.Lent.{lentBoth, lentList}
 use Rattle.tables.proofs.Lent.{few-parts}
 use Rattle.catalogue.specs.Calls.{almostKits}
-use Rattle.catalogue.specs.Demands.{entered, answering, AnsweringAlmost, ShownInStep, ZeroIsWithin, NothingLeaves, MostIsAll, almostOf, AlmostAnswers, AlmostShows}
+use Rattle.demands.specs.Model.{entered, answering, almostOf}
+use Rattle.demands.specs.Almost.{AnsweringAlmost, ShownInStep, ZeroIsWithin, NothingLeaves, MostIsAll, AlmostAnswers, AlmostShows}
 use Rattle.demands.proofs.Brought.{Brought, brought}
 use Rattle.demands.proofs.Answers.{answers-exactly, room-answer, room-memory, the-fitting, the-faults}
 

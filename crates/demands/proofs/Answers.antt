@@ -23,8 +23,9 @@ use Rattle.ground.specs.Tables.{Tables}
 use Rattle.tables.specs.Lent.{partCount, lentBoth, lentList}
 use Rattle.tables.proofs.Lent.{both-good}
 use Rattle.catalogue.specs.Calls.{contents, anyKit, allKits}
-use Rattle.catalogue.specs.Demands.{Question, entered, HasWhatWasEntered, listedIn, answering, AnsweringFits, AnsweringContains}
-use Rattle.catalogue.specs.Demands.{AnsweringInOrder, AnyAnswers, NoneAnswers, AllAnswers, listingOf}
+use Rattle.catalogue.specs.Calls.{Question}
+use Rattle.demands.specs.Model.{entered, HasWhatWasEntered, listedIn, answering, listingOf}
+use Rattle.demands.specs.Demand2.{AnsweringFits, AnsweringContains, AnsweringInOrder, AnyAnswers, NoneAnswers, AllAnswers}
 use Rattle.demands.proofs.Questions.{within-asks, containing-asks, in-order}
 use Rattle.demands.proofs.Brought.{Brought, brought}
 

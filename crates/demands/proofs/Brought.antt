@@ -3,21 +3,19 @@ use mathlib.Core.Path.{_≡_, refl, sym, ap, subst, _∙_}
 use mathlib.Core.Logic.{_≢_}
 use mathlib.Core.Bool.{true}
 use mathlib.Core.List.{List, [], _∷_, _++_, List·Memᴰ, Memᴰ·cast}
-use Prim.Native.Nat.{ℕ, _+_, _*_, _%_, _≤_, _<_}
+use Prim.Native.Nat.{ℕ, _+_, _*_, _≤_, _<_}
 use native.Mathlib.Omega.{arith}
 use lib.ListN.{length, replicate, length-replicate, length-append}
-use lib.Dec.{leb, eqb}
-use borrow.Author.Tests.{ltb-true, eqb-false, ltb-false, not-false, eq-eqb, le-leb}
-use Rattle.ground.specs.Lists.{every, distinct, from}
-use Rattle.ground.specs.Limits.{mostParts, twoLimit}
+use borrow.Author.Tests.{ltb-true, eqb-false, ltb-false, not-false}
+use Rattle.ground.specs.Limits.{twoLimit}
 use Rattle.ground.specs.Laid.{zeroed}
 use Rattle.ground.specs.Calls.{Case, Reply, done, refused, isRefused, decide, answer, leaves, memory}
-use Rattle.ground.proofs.Laws.{zeros-all, every-at}
+use Rattle.ground.proofs.Laws.{every-at}
 use Rattle.ground.proofs.Calls.{done-passes, leaves-done}
 use Rattle.register.specs.Register.{slotBytes, partsOf, registerLength}
 use Rattle.register.specs.Calls.{registering, lookingUp, showing}
 use Rattle.register.specs.Inner.{Ready}
-use Rattle.register.proofs.Sound as registers
+use Rattle.register.proofs.Empty.{slots-fit, zeros-ready, zeros-parts}
 use Rattle.register.proofs.Laws.{parts-after-registering, sound-after-registering, length-after-registering}
 use Rattle.kits.specs.Kits.{mostUnits, units, listFaults, goodList}
 use Rattle.kits.specs.Inner.{GoodRow}
@@ -50,8 +48,9 @@ use Rattle.tables.proofs.Lent.{list-passed}
 use Rattle.catalogue.specs.Calls.{Call, emptyBoth, registerPart, lookUp, showAt, insertKit, findKit, deleteKit, anyWithin, anyContaining}
 use Rattle.catalogue.specs.Calls.{allWithin, allContaining, allAlmost, writeSheet, readSheet, planOf, emptying, inserting, finding}
 use Rattle.catalogue.specs.Calls.{deleting, anyKit, reading}
-use Rattle.catalogue.specs.Demands as demand
-use Rattle.catalogue.specs.Demands.{has, listedIn, step, model, run, log, Catalogue, Allowed, begun, tablesOf, entered}
+use Rattle.demands.specs.Model as demand
+use Rattle.demands.specs.Model.{has, listedIn, step, model, run, log, Catalogue, Allowed, begun}
+use Rattle.demands.specs.Model.{tablesOf, entered}
 use Rattle.demands.proofs.Model.{apart, order-same, every-dropped, dropped-apart, order-dropped}
 
 -- a tag of two bytes
@@ -77,24 +76,6 @@ same-nodes : (N M : List ℕ) → length M ≡ length N → nodesLength N ≡ tr
 unfolding nodesLength
 same-nodes N M e h = rw e h
 
--- A register of zeros has no parts
-module _ (R : List ℕ) (fits : registerLength R ≡ true) where
-  no-slots : registers.Holds (zeroed R) 0
-  unfolding from distinct
-  no-slots = record { inside = omega arith; good = λ k u. absurd (omega arith); rest = zeros-all (length R); once = refl }
-
-  zeros-ready : Ready (zeroed R)
-  zeros-ready =
-      record {
-        fits = same-register R (zeroed R) (length-replicate {A = ℕ} (length R) 0) fits;
-        sound = registers.holds-sound (zeroed R) 0
-            no-slots;
-      }
-
-  zeros-parts : partsOf (zeroed R) ≡ []
-  unfolding from
-  zeros-parts = registers.holds-parts (zeroed R) 0 no-slots
-
 nothing-in-order : inOrder [] ≡ []
 unfolding inOrder
 nothing-in-order = refl
@@ -102,10 +83,10 @@ nothing-in-order = refl
 -- Both tables emptied
 pub emptied : (R N : List ℕ) → registerLength R ≡ true → nodesLength N ≡ true → Brought (tables (zeroed R) (zeroed N)) (has [] [])
 emptied R N fits sized = record {
-  ready = zeros-ready R fits;
+  ready = zeros-ready (length R) (same-register R (zeroed R) (length-replicate {A = ℕ} (length R) 0) fits);
   sized = same-nodes N (zeroed N) (length-replicate {A = ℕ} (length N) 0) sized;
   sound = zeros-sound N (partCount (tables (zeroed R) (zeroed N))) (length-sized N sized);
-  parts = zeros-parts R fits;
+  parts = zeros-parts (length R);
   kits = zeros-hold-nothing N sized ∙ sym nothing-in-order;
   apart = none;
   small = none;
@@ -364,14 +345,6 @@ calls-keep [] T m y b = b
 calls-keep (c ∷ cs) T m (also y ys) b = calls-keep cs (memory (planOf c T) T) (step c (answer (planOf c T)) m) ys (call-keeps c T m y b)
 
 -- A catalogue begun empty
-slots-fit : (n : ℕ) (R : List ℕ) → 1 ≤ n → n ≤ mostParts → length R ≡ n * slotBytes → registerLength R ≡ true
-unfolding registerLength every
-slots-fit n R h g e =
-    let a : eqb (length R % slotBytes) 0 ≡ true = eq-eqb (length R % slotBytes) 0 (omega arith) in
-    let b : leb slotBytes (length R) ≡ true = le-leb slotBytes (length R) (omega arith) in
-    let c : leb (length R) (mostParts * slotBytes) ≡ true = le-leb (length R) (mostParts * slotBytes) (omega arith) in
-    rw (a, b, c)
-
 room-fits : (n : ℕ) (N : List ℕ) → 1 ≤ n → n ≤ mostNodes → length N ≡ n * wordsPerNode → nodesLength N ≡ true
 room-fits n N h g e = sized-length N (record { whole = omega arith; some-node = omega arith; most = omega arith })
 

@@ -10,7 +10,8 @@ use Rattle.nodes.proofs.Held.{kit}
 use Rattle.nodes.proofs.Beginnings.{nodes-used}
 use Rattle.index_counts.proofs.Filled.{more-beginnings}
 use Rattle.kits.specs.Kits.{units}
-use Rattle.catalogue.specs.Demands.{tablesOf, entered, NodesCounted, NodesTaken}
+use Rattle.demands.specs.Model.{tablesOf, entered}
+use Rattle.demands.specs.Pins.{NodesCounted, NodesTaken}
 use Rattle.demands.proofs.Brought.{brought, insertion, now-held, now-begun}
 
 -- the order of the kits does not matter

@@ -28,8 +28,10 @@ use Rattle.ground.specs.Tables.{Tables}
 use Rattle.tables.specs.Lent.{partCount, lentList}
 use Rattle.tables.proofs.Lent.{lent-passed}
 use Rattle.catalogue.specs.Calls.{planOf, anyKit, allKits}
-use Rattle.catalogue.specs.Demands as demand
-use Rattle.catalogue.specs.Demands.{Question, FitsExactly, ContainsExactly, TurnedRound, Asked, AnySays, NoneFits, NoneContains, InOrder, ListedInOrder, ListingShows, OneOnlyIf}
+use Rattle.demands.specs.Demand2 as demand
+use Rattle.catalogue.specs.Calls.{Question}
+use Rattle.demands.specs.Demand2.{FitsExactly, ContainsExactly, TurnedRound, Asked, AnySays, NoneFits, NoneContains, InOrder, ListedInOrder}
+use Rattle.demands.specs.Demand2.{ListingShows, OneOnlyIf}
 
 -- what the two questions ask
 pub within-asks : (bin : List ℕ) (k : Kit) → (isWithin bin k ≡ true) ↔ Within (k .row) bin

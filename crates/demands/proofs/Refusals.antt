@@ -1,7 +1,8 @@
 -- Demand 1, and what the promises pin: of every call.
 use Rattle.ground.proofs.Calls as calls
 use Rattle.catalogue.specs.Calls.{planOf}
-use Rattle.catalogue.specs.Demands.{RefusedExactly, RefusalKeeps, RefusalKeepsOutput, TablesPinned, OutputPinned, settingDown}
+use Rattle.demands.specs.Demand1.{RefusedExactly, RefusalKeeps, RefusalKeepsOutput, settingDown}
+use Rattle.demands.specs.Pins.{TablesPinned, OutputPinned}
 
 pub refused-exactly : RefusedExactly
 refused-exactly c T n v = calls.refused-exactly (planOf c T) n v

@@ -3,17 +3,17 @@
 use mathlib.Core.Path.{_≡_, sym, ap, subst, _∙_}
 use mathlib.Core.Logic.{_↔_, ⊎-elim}
 use mathlib.Core.Bool.{true}
-use mathlib.Core.List.{List, [], append-nil, List·Memᴰ}
+use mathlib.Core.List.{List, [], _++_, append-nil, List·Memᴰ}
 use Prim.Native.Nat.{ℕ, _≤_, _<_}
 use native.Mathlib.Omega.{arith}
-use lib.ListN.{length, take}
-use lib.Seq.{take-append-seam}
+use lib.ListN.{length, take, drop}
+use lib.Seq.{take-append-seam, drop-append-seam}
 use Rattle.ground.specs.Laid.{laid}
-use Rattle.ground.specs.Calls.{done, answer, memory, Promise, setDown}
+use Rattle.ground.specs.Calls.{done, decide, answer, leaves, memory, Promise, setDown}
 use Rattle.ground.proofs.Laid.{laid-front}
-use Rattle.ground.proofs.Calls.{set-down-done, set-down-full, leaves-done}
+use Rattle.ground.proofs.Calls.{set-down-done, set-down-full, leaves-done, decide-behind}
 use Rattle.ground.proofs.Laws.{le-or}
-use Rattle.nodes.specs.Held.{inOrder, tagIn}
+use Rattle.nodes.specs.Held.{Kit, inOrder, tagIn, held, allBeginnings}
 use Rattle.nodes.proofs.Sorted.{Every, every-mem, mem-every}
 use Rattle.nodes.proofs.Listing.{order-mem, order-rises}
 use Rattle.nodes.proofs.Held.{held-tagged}
@@ -22,13 +22,19 @@ use Rattle.sheet.specs.Sheet.{Contents, encode}
 use Rattle.sheet.specs.Inner.{fitsSheet}
 use Rattle.sheet.specs.Reading.{decode, said}
 use Rattle.sheet.proofs.Laws.{encode-injective}
-use Rattle.sheet_read.proofs.RoundTrip.{SmallTags, catalogue-fits}
+use Rattle.sheet_write.proofs.Whole.{order-many}
+use Rattle.sheet_read.specs.Filling.{filling, Roomy}
+use Rattle.sheet_read.specs.Inner.{readingInto}
+use Rattle.sheet_read.proofs.RoundTrip.{SmallTags, catalogue-fits, write-then-read, same-catalogue}
 use Rattle.ground.specs.Tables.{Tables}
-use Rattle.tables.specs.Lent.{lentBoth}
-use Rattle.catalogue.specs.Calls.{writing, reading}
-use Rattle.catalogue.specs.Demands.{listedIn, Writes, Agree, SheetsTell, SheetIsWritten, SameAgain, NoOther, NoSecond}
+use Rattle.tables.specs.Lent.{lengths, lentBoth}
+use Rattle.tables.proofs.Lent.{lengths-good}
+use Rattle.catalogue.specs.Calls.{contents, writing, reading}
+use Rattle.demands.specs.Model.{tablesOf, listedIn}
+use Rattle.demands.specs.Demand3.{Writes, Agree, SheetsTell, SheetIsWritten, ReadBack, SameAgain, NoOther, NoSecond}
 use Rattle.demands.proofs.Model.{HasTag, tag-order, tags-determine}
 use Rattle.demands.proofs.Brought.{Brought, brought, read-kept, sheet-again}
+use Rattle.demands.proofs.Counts.{as-many}
 use Rattle.demands.proofs.Answers.{has-contents, down-answer, down-memory}
 
 -- Tables that have some contents write their sheet
@@ -47,10 +53,11 @@ module _ {T : Tables} {m : Contents} (b : Brought T m) where
   pub writes : (o : List ℕ) → length (encode (listedIn m)) ≤ length o → Writes T o (encode (listedIn m))
   writes o h =
       let p : Promise (setDown [] S o) o (done (length S)) (laid o 0 S) = set-down-done S o h in
+      let l : memory (writing T o) o ≡ S ++ drop (length S) o = write-memory o ∙ sym (p .lent) ∙ laid-front o S h in
       record {
         written = write-answer o ∙ sym (p .answers);
-        is = ap (take (length S)) (write-memory o ∙ sym (p .lent) ∙ laid-front o S h)
-            ∙ take-append-seam S _;
+        is = ap (take (length S)) l ∙ take-append-seam S _;
+        behind = ap (drop (length S)) l ∙ drop-append-seam S _;
       }
 
   -- and no other
@@ -109,6 +116,48 @@ sheets-tell a b o p s t x y = sheets-agree (brought a x) (brought b y) o p s t
 
 pub sheet-is-written : SheetIsWritten
 sheet-is-written a o h r = writes (brought a h) o r
+
+-- What is written is read back
+module _ {T U : Tables} {m : Contents} (b : Brought T m) (r : Roomy m U) where
+  roomy : Roomy (contents T) U
+  roomy = record {
+    register-fits = r .register-fits;
+    nodes-fit = r .nodes-fit;
+    slots = omega (arith, r .slots, ap length (b .parts));
+    nodes = omega (arith, r .nodes, ap (λ (ks : List Kit). length (allBeginnings ks)) (b .kits), as-many (m .kits));
+  }
+
+  as-many-kits : length (held (T .nodes)) ≡ length (m .kits)
+  as-many-kits = ap length (b .kits) ∙ order-many (m .kits)
+
+  -- behind the lengths it is the reading that the sheet's own laws speak of
+  lengths-pass : decide (lengths U) 0 ≡ done 0
+  lengths-pass = lengths-good (U .register) (U .nodes) (r .register-fits) (r .nodes-fit)
+
+  same-answer : (s : List ℕ) → answer (reading s U) ≡ answer (readingInto s U)
+  unfolding answer reading readingInto
+  same-answer s = decide-behind (lengths U) _ 0 _ lengths-pass
+
+  same-memory : (s : List ℕ) → memory (reading s U) U ≡ memory (readingInto s U) U
+  unfolding memory reading readingInto
+  same-memory s = ap (λ a. leaves a U (filling (said (decode s)) U)) (same-answer s)
+
+  back-accepted : answer (reading (encode (contents T)) U) ≡ done (length (m .kits))
+  back-accepted = same-answer (encode (contents T)) ∙ write-then-read (b .ready) (b .sound) (small b) U roomy ∙ ap done as-many-kits
+
+  back-contents : contents (memory (reading (encode (contents T)) U) U) ≡ contents T
+  back-contents =
+      let h = same-catalogue (b .ready) (b .sound) (small b) U roomy in
+      let e = same-memory (encode (contents T)) in
+      let p = h .parts in
+      let k = h .kits in
+      rw e (rw (p, k))
+
+pub read-back : ReadBack
+read-back a o s U h w r =
+    let b = brought a h in
+    let e : s ≡ encode (contents (tablesOf a)) = written-is b o s w ∙ ap encode (sym (has-contents b)) in
+    rw e (back-accepted b r, back-contents b r)
 
 -- the tables that a reading leaves
 read-in-place : (s : List ℕ) (T : Tables) (k : ℕ) → Bytes s → answer (reading s T) ≡ done k →

@@ -20,7 +20,7 @@ use Rattle.tables.specs.Lent.{partCount}
 use Rattle.catalogue.specs.Calls.{Call, emptyBoth, registerPart, lookUp, showAt, insertKit, findKit, deleteKit, anyWithin, anyContaining}
 use Rattle.catalogue.specs.Calls.{allWithin, allContaining, allAlmost, writeSheet, readSheet, planOf, emptying, inserting, finding}
 use Rattle.catalogue.specs.Calls.{deleting, anyKit}
-use Rattle.catalogue.specs.Demands.{has, step, run, Catalogue, Allowed, begun, tablesOf}
+use Rattle.demands.specs.Model.{has, step, run, Catalogue, Allowed, begun, tablesOf}
 use Rattle.demands.proofs.Brought.{Brought, Typed, insertion, delete-held, what-was-read, call-keeps, begun-empty, all-typed}
 
 -- tables of the same lengths

@@ -30,7 +30,8 @@ use Rattle.tables.proofs.Lent.{lengths-good}
 use Rattle.catalogue.specs.Calls.{Call, emptyBoth, registerPart, lookUp, showAt, insertKit, findKit, deleteKit, anyWithin, anyContaining}
 use Rattle.catalogue.specs.Calls.{allWithin, allContaining, allAlmost, writeSheet, readSheet, planOf, emptying, inserting, finding}
 use Rattle.catalogue.specs.Calls.{deleting, reading}
-use Rattle.demands.specs.Told.{more, told, ToldExactly}
+use Rattle.demands.specs.Model.{more}
+use Rattle.demands.specs.Demand1.{told, ToldExactly}
 use Rattle.demands.proofs.Model.{tag-order}
 use Rattle.demands.proofs.Brought.{Brought, brought}
 use Rattle.demands.proofs.Sizes.{sizes}

@@ -48,7 +48,8 @@ use Rattle.tables.specs.Lent.{partCount, lengths, lentBoth, lentList}
 use Rattle.catalogue.specs.Calls.{emptyBoth, registerPart, lookUp, showAt, insertKit, findKit, deleteKit, anyWithin, anyContaining}
 use Rattle.catalogue.specs.Calls.{allWithin, allContaining, allAlmost, writeSheet, readSheet, planOf, emptying, inserting, finding}
 use Rattle.catalogue.specs.Calls.{deleting, anyKit, allKits, almostKits, writing, reading}
-use Rattle.catalogue.specs.Demands.{Question, ValuesFit}
+use Rattle.catalogue.specs.Calls.{Question}
+use Rattle.demands.specs.Pins.{ValuesFit}
 use Rattle.demands.proofs.Offsets.{fault-near}
 
 -- The first refusals have the value 0, so that what stands behind them matters only where they pass
@@ -129,12 +130,12 @@ all-long n (k ∷ ks) h =
     )
 
 -- Places
-place-most : (k : ℕ) (n : List ℕ) (ps : List (List ℕ)) → placeFrom k n ps ≤ k + length ps
+pub place-known : (k : ℕ) (n : List ℕ) (ps : List (List ℕ)) → 0 < k → placeFrom k n ps < k + length ps
 unfolding placeFrom
-place-most k n [] = omega arith
-place-most k n (p ∷ ps) =
-    by-cond (λ (x : ℕ). x ≤ k + suc (length ps)) (eqList n p) k (placeFrom (suc k) n ps) (λ _. omega arith)
-    (λ _. omega (arith, place-most (suc k) n ps))
+place-known k n [] h = omega arith
+place-known k n (p ∷ ps) h =
+    by-cond (λ (x : ℕ). x < k + suc (length ps)) (eqList n p) k (placeFrom (suc k) n ps) (λ _. omega arith)
+    (λ _. omega (arith, place-known (suc k) n ps (omega arith)))
 
 -- The refusals of what is lent
 lengths-plain : (T : Tables) → Every Plain (lengths T)
@@ -194,9 +195,9 @@ down-small cs xs o p f = small-front limit some-limit cs _ _ p (λ e. small-step
 module _ (n R : List ℕ) where
   place-small : Ready R → placeIn n (partsOf R) < limit
   unfolding placeIn
-  place-small r = omega (arith, place-most 1 n (partsOf R), few-parts R r)
+  place-small r = omega (arith, place-known 1 n (partsOf R) (omega arith), few-parts R r)
 
-  registering-small : valueOf (answer (registering n R)) < limit
+  pub registering-small : valueOf (answer (registering n R)) < limit
   unfolding answer registering numberRefusals
   registering-small = small-front limit some-limit (lentRegister R) _ _ (register-plain R) (λ e.
       let r = register-passed R e in
@@ -204,14 +205,14 @@ module _ (n R : List ℕ) where
       small-step limit some-limit _ _ _ (λ _. place-small r) (λ _.
       small-step limit some-limit _ _ _ (λ _. omega arith) (λ _. end-small _ (omega (arith, few-parts R r))))))
 
-  looking-small : valueOf (answer (lookingUp n R)) < limit
+  pub looking-small : valueOf (answer (lookingUp n R)) < limit
   unfolding answer lookingUp
   looking-small = small-front limit some-limit (lentRegister R) _ _ (register-plain R) (λ e.
       let r = register-passed R e in
       small-step limit some-limit _ _ _ (λ _. some-limit) (λ _.
       small-step limit some-limit _ _ _ (λ _. some-limit) (λ _. end-small _ (place-small r))))
 
-showing-small : (p : ℕ) (R : List ℕ) → valueOf (answer (showing p R)) < limit
+pub showing-small : (p : ℕ) (R : List ℕ) → valueOf (answer (showing p R)) < limit
 unfolding answer showing
 showing-small p R =
     small-front limit some-limit (lentRegister R) _ _ (register-plain R)
@@ -244,7 +245,7 @@ module _ (R N : List ℕ) (words : (i : ℕ) → getD N i 0 < twoLimit) where
   list-lent : (l : List ℕ) → isRefused (decide (lentList T l) 0) ≡ false → Lent R N
   list-lent l e = lent-passed R N l e .both
 
-  inserting-small : (l : List ℕ) (t : ℕ) → valueOf (answer (inserting l t (tables R N))) < limit
+  pub inserting-small : (l : List ℕ) (t : ℕ) → valueOf (answer (inserting l t (tables R N))) < limit
   unfolding answer inserting entryRefusals
   inserting-small l t = small-front limit some-limit (lentBoth T) _ _ (both-plain T) (λ e.
       let L = both-passed R N e in
@@ -256,19 +257,19 @@ module _ (R N : List ℕ) (words : (i : ℕ) → getD N i 0 < twoLimit) where
       small-step limit some-limit _ _ _ (λ _. some-limit) (λ _.
       small-step limit some-limit _ _ _ (λ _. omega arith) (λ _. end-small _ (omega arith))))))))
 
-  finding-small : (l : List ℕ) → valueOf (answer (finding l (tables R N))) < limit
+  pub finding-small : (l : List ℕ) → valueOf (answer (finding l (tables R N))) < limit
   unfolding answer finding missingRefusals
   finding-small l =
       small-front limit some-limit (lentList T l) _ _ (list-plain T l)
       (λ e. small-step limit some-limit _ _ _ (λ _. some-limit) (λ _. end-small _ (tag-here (list-lent l e) (units l))))
 
-  deleting-small : (l : List ℕ) → valueOf (answer (deleting l (tables R N))) < limit
+  pub deleting-small : (l : List ℕ) → valueOf (answer (deleting l (tables R N))) < limit
   unfolding answer deleting missingRefusals
   deleting-small l =
       small-front limit some-limit (lentList T l) _ _ (list-plain T l)
       (λ e. small-step limit some-limit _ _ _ (λ _. some-limit) (λ _. end-small _ (tag-here (list-lent l e) (units l))))
 
-  any-small : (question : Question) (l : List ℕ) → valueOf (answer (anyKit question l (tables R N))) < limit
+  pub any-small : (question : Question) (l : List ℕ) → valueOf (answer (anyKit question l (tables R N))) < limit
   unfolding answer anyKit anyOf
   any-small question l =
       small-end (lentList T l) _ (list-plain T l)
@@ -280,18 +281,18 @@ module _ (R N : List ℕ) (words : (i : ℕ) → getD N i 0 < twoLimit) where
   few-fitting question l e =
       omega (arith, tags-long (fitting question l N), keep-short (question (units l)) (held N), kits-here (list-lent l e))
 
-  all-small : (question : Question) (l o : List ℕ) → valueOf (answer (allKits question l (tables R N) o)) < limit
+  pub all-small : (question : Question) (l o : List ℕ) → valueOf (answer (allKits question l (tables R N) o)) < limit
   unfolding allKits allOf fitting
   all-small question l o = down-small (lentList T l) _ o (list-plain T l) (few-fitting question l)
 
-  almost-small : (d : ℕ) (l : List ℕ) (o : Both) → valueOf (answer (almostKits d l (tables R N) o)) < limit
+  pub almost-small : (d : ℕ) (l : List ℕ) (o : Both) → valueOf (answer (almostKits d l (tables R N) o)) < limit
   unfolding answer almostKits setBoth allOf fitting
   almost-small d l o = rw append-assoc (small-front limit some-limit (lentList T l) _ _ (list-plain T l) (λ e.
       small-step limit some-limit _ _ _ (λ _. some-limit) (λ _.
       let few : length (tagsOf (fitting (isAlmost d) l N)) < limit = few-fitting (isAlmost d) l e in
       small-step limit some-limit _ _ _ (λ _. few) (λ _. end-small _ few))))
 
-  emptying-small : valueOf (answer (emptying (tables R N))) < limit
+  pub emptying-small : valueOf (answer (emptying (tables R N))) < limit
   unfolding answer emptying
   emptying-small = small-end (lengths T) 0 (lengths-plain T) (λ _. some-limit)
 
@@ -328,13 +329,13 @@ module _ (c : Contents) (F : Fits c) where
   nodes-small : nodesNeeded c < limit
   nodes-small = omega (arith, all-long 64 (c .kits) (λ k m. row-short k m .short), F .few-kits)
 
-writing-small : (R N : List ℕ) (words : (i : ℕ) → getD N i 0 < twoLimit) (o : List ℕ) → valueOf (answer (writing (tables R N) o)) < limit
+pub writing-small : (R N : List ℕ) (words : (i : ℕ) → getD N i 0 < twoLimit) (o : List ℕ) → valueOf (answer (writing (tables R N) o)) < limit
 unfolding writing
 writing-small R N words o =
     down-small (lentBoth (tables R N)) _ o (both-plain (tables R N))
     (λ e. sheet-small (contentsOf R N) (fits-here R N words (both-passed R N e)))
 
-reading-small : (s : List ℕ) (T : Tables) → Bytes s → valueOf (answer (reading s T)) < limit
+pub reading-small : (s : List ℕ) (T : Tables) → Bytes s → valueOf (answer (reading s T)) < limit
 unfolding answer reading sheetRefusals roomRefusals
 reading-small s T h = small-front limit some-limit (lengths T) _ _ (lengths-plain T) (λ e.
     small-step limit some-limit _ _ _ (λ _. omega (arith, fault-near s h)) (λ f.

@@ -1,3 +1,9 @@
--- What every call answers a catalogue begun empty, and the document's own examples.
-pub mod Told
+-- The three demands as statements, the document's own examples, and its limits.
+pub mod Model
+pub mod Demand1
+pub mod Demand2
+pub mod Almost
+pub mod Demand3
+pub mod Pins
 pub mod ShortCases
+pub mod Limits

@@ -8,9 +8,11 @@ use Rattle.ground.specs.Calls.{Reply, done, refused, answer, memory, Both, both
 use Rattle.kits.specs.Kits.{listOf}
 use Rattle.nodes.specs.Nodes.{usedNodes}
 use Rattle.questions.specs.Questions.{isWithin, isContaining}
-use Rattle.ground.specs.Tables.{Tables}
-use Rattle.catalogue.specs.Calls.{Call, registerPart, insertKit, deleteKit, anyWithin, anyContaining, allKits, almostKits, deleting, writing}
-use Rattle.catalogue.specs.Demands.{Question, log, tablesOf}
+use Rattle.ground.specs.Tables.{Tables, tables}
+use Rattle.sheet.specs.Sheet.{Contents}
+use Rattle.catalogue.specs.Calls.{Call, registerPart, insertKit, deleteKit, anyWithin, anyContaining, allKits, almostKits, deleting, writing, reading, contents}
+use Rattle.catalogue.specs.Calls.{Question}
+use Rattle.demands.specs.Model.{has, log, tablesOf}
 
 -- kits inserted by their units, with the tags t, t + 1, ..
 unfoldable pub insertRows : ℕ → List (List ℕ) → List Call
@@ -34,7 +36,7 @@ listedBy question rs r = let p = allKits question (listOf r) (holding rs) (0 ∷
 unfoldable pub struck : List (List ℕ) → List ℕ → Reply × ℕ
 struck rs r = let p = deleting (listOf r) (holding rs) in (answer p, length (usedNodes (memory p (holding rs) .nodes)))
 
--- row by row: kits held (units), question, answer
+-- [14.16] row by row: kits held (units), question, answer
 abbrev pub ShortCases : Type 0
 ShortCases =
     -- none; within {1}; none
@@ -65,7 +67,7 @@ askedAlmost d rs r =
     let p = almostKits d (listOf r) (holding rs) o in
     (answer p, memory p o)
 
--- (1) and (1, 1, 1) lack one unit and three, and three units too many of another part pay for none; (1, 1) and (1, 3) lack one each,
+-- [14.16] (1) and (1, 1, 1) lack one unit and three, and three units too many of another part pay for none; (1, 1) and (1, 3) lack one each,
 -- whichever part it is. Proof: proofs/ShortCases, `almost-cases`
 abbrev pub AlmostCases : Type 0
 AlmostCases =
@@ -102,13 +104,28 @@ desk cs = tablesOf (record { slots = 4; room = 6; calls = cs })
 unfoldable pub replies : List Call → Tables → List Reply
 replies cs T = map (λ x. x .1) (log cs T)
 
--- the replies, what b lists, and the bytes that W writes. Proof: proofs/ShortCases, `desk-example`
+-- the bytes that W writes, and what they say
+abbrev pub exampleSheet : List ℕ
+exampleSheet =
+    0x4B ∷ 0x49 ∷ 0x54 ∷ 0x00 ∷ 0x01 ∷ 0x00 ∷ 0x03 ∷ 0x05 ∷ 0x30 ∷ 0x30 ∷ 0x37 ∷ 0x34 ∷ 0x31 ∷ 0x03 ∷ 0x37 ∷ 0x34 ∷ 0x31 ∷ 0x04 ∷ 0x34 ∷ 0x30
+    ∷ 0x31 ∷ 0x36 ∷ 0x00 ∷ 0x02 ∷ 0x00 ∷ 0x09 ∷ 0x01 ∷ 0x01 ∷ 0x01 ∷ 0x00 ∷ 0x05 ∷ 0x01 ∷ 0x02 ∷ 0x01 ∷ []
+
+abbrev pub exampleSays : Contents
+exampleSays =
+    has ((0x30 ∷ 0x30 ∷ 0x37 ∷ 0x34 ∷ 0x31 ∷ []) ∷ (0x37 ∷ 0x34 ∷ 0x31 ∷ []) ∷ (0x34 ∷ 0x30 ∷ 0x31 ∷ 0x36 ∷ []) ∷ [])
+    (record { row = 1 ∷ []; tag = 9 } ∷ record { row = 2 ∷ []; tag = 5 } ∷ [])
+
+-- tables of three slots and three nodes that hold something else
+abbrev pub otherTables : Tables
+otherTables = tables (replicate 96 7) (replicate 18 7)
+
+-- [14.16] the replies, what b lists, the sheet, and the sheet read back. Proof: proofs/ShortCases, `desk-example`
 abbrev pub DeskExample : Type 0
 DeskExample =
     (replies entries (desk []) ≡ done 1 ∷ done 2 ∷ refused 9 1 ∷ done 3 ∷ done 3 ∷ done 0 ∷ done 1 ∷ refused 9 9 ∷ refused 10 0 ∷ [])
     × (memory (allKits isWithin (1 ∷ 1 ∷ 2 ∷ 4 ∷ []) (desk entries) (0 ∷ 0 ∷ 0 ∷ [])) (0 ∷ 0 ∷ 0 ∷ []) ≡ 9 ∷ 5 ∷ 0 ∷ [])
     × (replies later (desk entries) ≡ done 7 ∷ done 0 ∷ done 7 ∷ refused 4 0 ∷ [])
     × (answer (writing (desk (entries ++ later)) (replicate 34 0)) ≡ done 34)
-    × (memory (writing (desk (entries ++ later)) (replicate 34 0))
-    (replicate 34 0) ≡ 0x4B ∷ 0x49 ∷ 0x54 ∷ 0x00 ∷ 0x01 ∷ 0x00 ∷ 0x03 ∷ 0x05 ∷ 0x30 ∷ 0x30 ∷ 0x37 ∷ 0x34 ∷ 0x31 ∷ 0x03 ∷ 0x37 ∷ 0x34 ∷ 0x31 ∷ 0x04
-    ∷ 0x34 ∷ 0x30 ∷ 0x31 ∷ 0x36 ∷ 0x00 ∷ 0x02 ∷ 0x00 ∷ 0x09 ∷ 0x01 ∷ 0x01 ∷ 0x01 ∷ 0x00 ∷ 0x05 ∷ 0x01 ∷ 0x02 ∷ 0x01 ∷ [])
+    × (memory (writing (desk (entries ++ later)) (replicate 34 0)) (replicate 34 0) ≡ exampleSheet)
+    × (answer (reading exampleSheet otherTables) ≡ done 2)
+    × (contents (memory (reading exampleSheet otherTables) otherTables) ≡ exampleSays)

@@ -1,1 +1,1 @@
-// The three demands, proved: laws alone. The statements stand in crates/catalogue/specs/Demands.antt.
+// The three demands, stated in specs/ and proved in proofs/: laws alone.

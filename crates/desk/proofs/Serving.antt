@@ -19,10 +19,11 @@ use Rattle.desk_input.specs.Lines.{allButLast, lastOf, ended, unfinished, lastL
 use Rattle.desk_input.proofs.Cutting.{Clean, clean-none, clean-append, firstLine, behindFirst, goes-on-ended, goes-on-unfinished}
 use Rattle.desk_input.proofs.Cutting.{ends-ended, ends-unfinished, kept-clean, unfinished-clean, ended-on, unfinished-on, answered-append}
 use Rattle.desk_input.proofs.Cutting.{piece-answers, piece-keeps, last-answers}
+use Rattle.desk_lines.specs.Sizes.{outputPlaces, sheetBytes, begunDesk}
 use Rattle.desk_lines.specs.Desk.{leftBy}
 use Rattle.desk_lines.specs.Inner.{Room}
 use Rattle.desk_lines.proofs.Left.{overlong-leaves}
-use Rattle.desk.specs.Inner.{outputPlaces, sheetBytes, replyBytes, AtHand, Keeps, Takes}
+use Rattle.desk.specs.Inner.{replyBytes, AtHand, Keeps, Takes}
 use Rattle.desk.specs.Desk.{Serves}
 
 -- of an overlong line what is kept is overlong too
@@ -153,23 +154,23 @@ pub same-start : (R N p s o : List ℕ) → SameLengths R N p s o R N p s o
 same-start R N p s o = record { register = refl; nodes = refl; places = refl; sheet = refl; out = refl }
 
 -- some input was read: the lines that have ended are answered, and n bytes are kept of the one that has not
-pub record Read (T : Tables) (kept : List ℕ) (n : ℕ) (U : Tables) : Type 0 where
+pub record Read (kept : List ℕ) (n : ℕ) (U : Tables) : Type 0 where
   pub input : List ℕ
   pub left : take n kept ≡ keptOf (unfinished input)
-  pub tables : U ≡ answered leftBy (ended input) T
+  pub tables : U ≡ answered leftBy (ended input) begunDesk
 
-pub none-read : (T : Tables) (kept : List ℕ) → Read T kept 0 T
+pub none-read : (T : Tables) (kept : List ℕ) → T ≡ begunDesk → Read kept 0 T
 unfolding answered ended unfinished parted allButLast lastOf keptOf
-none-read T kept = record { input = []; left = refl; tables = refl }
+none-read T kept e = record { input = []; left = refl; tables = e }
 
-module _ {T : Tables} {kept : List ℕ} {n : ℕ} {U : Tables} (R : Read T kept n U) where
+module _ {kept : List ℕ} {n : ℕ} {U : Tables} (R : Read kept n U) where
   s : List ℕ
   s = R .input
 
   u : List ℕ
   u = unfinished s
 
-  pub more-read : (p : List ℕ) (r : ℕ) (new : List ℕ) (Z : Tables) → Takes (take n kept) p U r new Z → Read T new r Z
+  pub more-read : (p : List ℕ) (r : ℕ) (new : List ℕ) (Z : Tables) → Takes (take n kept) p U r new Z → Read new r Z
   unfolding s u
   more-read p r new Z t =
       let c = unfinished-clean s in
@@ -183,11 +184,11 @@ module _ {T : Tables} {kept : List ℕ} {n : ℕ} {U : Tables} (R : Read T kept 
             ∙ ap (λ k. answered leftBy (ended (k ++ p)) U) (R .left)
             ∙ piece-answers leftBy left-by-kept u p c U
             ∙ ap (answered leftBy (ended (u ++ p))) (R .tables)
-            ∙ sym (answered-append leftBy (ended s) (ended (u ++ p)) T)
-            ∙ ap (λ ls. answered leftBy ls T) (sym (ended-on s p));
+            ∙ sym (answered-append leftBy (ended s) (ended (u ++ p)) begunDesk)
+            ∙ ap (λ ls. answered leftBy ls begunDesk) (sym (ended-on s p));
       }
 
-  last-read : (Z : Tables) → Z ≡ answered leftBy (lastLine (take n kept)) U → Serves T Z
+  last-read : (Z : Tables) → Z ≡ answered leftBy (lastLine (take n kept)) U → Serves Z
   unfolding s u linesOf
   last-read Z e =
       record {
@@ -197,15 +198,15 @@ module _ {T : Tables} {kept : List ℕ} {n : ℕ} {U : Tables} (R : Read T kept 
             ∙ ap (λ k. answered leftBy (lastLine k) U) (R .left)
             ∙ last-answers leftBy left-by-kept u U
             ∙ ap (answered leftBy (lastLine u)) (R .tables)
-            ∙ sym (answered-append leftBy (ended s) (lastLine u) T);
+            ∙ sym (answered-append leftBy (ended s) (lastLine u) begunDesk);
       }
 
   -- the input ends with a line feed, or with a line that lacks it
-  pub nothing-left : n ≡ 0 → Serves T U
+  pub nothing-left : n ≡ 0 → Serves U
   unfolding answered lastLine
   nothing-left e = last-read U (ap (λ m. answered leftBy (lastLine (take m kept)) U) (sym e))
 
-  pub line-left : (Z : Tables) → (n ≡ 0 → ⊥) → n ≤ length kept → Z ≡ leftBy (take n kept) U → Serves T Z
+  pub line-left : (Z : Tables) → (n ≡ 0 → ⊥) → n ≤ length kept → Z ≡ leftBy (take n kept) U → Serves Z
   unfolding answered lastLine
   line-left Z h i e = last-read Z (go (take n kept) (length-take-le n kept i) e)
     where

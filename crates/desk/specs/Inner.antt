@@ -1,5 +1,5 @@
 -- Inner: no promise of the house rests on what stands here; inner contracts and proofs speak by it.
--- The desk's sizes, and what a piece of the input leaves.
+-- Room for a reply, and what a piece of the input leaves.
 use mathlib.Core.Path.{_≡_}
 use mathlib.Core.List.{List, _++_}
 use Prim.Native.Nat.{ℕ, _≤_}
@@ -14,20 +14,6 @@ use Rattle.desk_lines.specs.Desk.{leftBy}
 use Rattle.desk_lines.specs.Inner.{Room}
 
 ------------------------------------------------------------------------
--- "It reads standard input with 255 slots, 2,048 nodes, 2,048 output places and 8,192 sheet bytes."
-
-abbrev pub slots : ℕ
-slots = 255
-
-abbrev pub nodes : ℕ
-nodes = 2048
-
-abbrev pub outputPlaces : ℕ
-outputPlaces = 2048
-
-abbrev pub sheetBytes : ℕ
-sheetBytes = 8192
-
 -- room for the longest reply, the one to W: a letter, a number, a value, a space, two digits for each byte of the sheet, a line feed
 abbrev pub replyBytes : ℕ
 replyBytes = 16640

@@ -1,3 +1,3 @@
--- Document 01, "The desk program": what is promised of a whole input, its sizes, and what a piece of it leaves.
+-- Document 01, "The desk program": what is promised of a whole input, and what a piece of it leaves.
 pub mod Desk
 pub mod Inner

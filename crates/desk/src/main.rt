@@ -1,14 +1,15 @@
 // Document 01, "The desk program": reads lines from standard input and writes a reply to each.
 ghost use mathlib.Core.Path.{_≡_};
 ghost use Prim.Native.Nat.{_*_, _<_};
-ghost use lib.ListN.{length, take};
+ghost use lib.ListN.{length, take, replicate};
 ghost use Rattle.register.specs.Register.{slotBytes};
-ghost use Rattle.register.specs.Inner.{Ready};
 ghost use Rattle.nodes.specs.Nodes.{wordsPerNode};
 ghost use Rattle.ground.specs.Tables.{tables};
+ghost use Rattle.desk_lines.specs.Sizes.{deskSlots, deskNodes, outputPlaces, sheetBytes, begunDesk};
 ghost use Rattle.desk_lines.specs.Desk.{leftBy};
+ghost use Rattle.desk_lines.specs.Inner.{Room};
 ghost use Rattle.desk_input.specs.Inner.{mostKept};
-ghost use Rattle.desk.specs.Inner.{slots, nodes, outputPlaces, sheetBytes, replyBytes, AtHand, Keeps, Takes};
+ghost use Rattle.desk.specs.Inner.{replyBytes, AtHand, Keeps, Takes};
 ghost use Rattle.desk.specs.Desk.{Serves};
 use desk_input::keep_more;
 use desk_lines::answer_line;
@@ -88,7 +89,7 @@ fn turns_left(turns: u64, got: isize) -> u64
     if got <= 0 { 0 } else { turns - 1 }
 }
 
-// Reads the input to its end, piece by piece, and answers its lines. The last line may lack its line feed.
+// Reads the input to its end, piece by piece, and answers its lines, from empty tables on. The last line may lack its line feed.
 fn serve(
     kept: &mut [u8],
     piece: &mut [u8],
@@ -98,8 +99,8 @@ fn serve(
     sheet: &mut [u8],
     out: &mut [u8],
 )
-    requires { ⌜ Keeps (now kept) 0 ⌝ ∗ ⌜ AtHand (tables (now reg) (now nodes)) (now places) (now sheet) (now out) ⌝ }
-    ensures { λ _. ⌜ Serves (tables (now (reg .entry)) (now (nodes .entry))) (tables (now (reg .exit)) (now (nodes .exit))) ⌝ }
+    requires { ⌜ Keeps (now kept) 0 ⌝ ∗ ⌜ tables (now reg) (now nodes) ≡ begunDesk ⌝ ∗ ⌜ Room (now places) (now sheet) (now out) ⌝ }
+    ensures { λ _. ⌜ Serves (tables (now (reg .exit)) (now (nodes .exit))) ⌝ }
 {
     let mut n = 0;
     let mut turns = u64::MAX;
@@ -115,15 +116,16 @@ fn serve(
     reply_to(&kept[..n], reg, nodes, places, sheet, out);
 }
 
-// The memory of the desk. Each array is made by a function, so that a caller knows it by the contract and not element by element.
+// The memory of the desk: "The register and index start empty". Each array is made by a function, so that a caller knows it by the contract
+// and not element by element.
 fn empty_register() -> [u8; SLOTS * register::SLOT_BYTES]
-    ensures { λ r. ⌜ (slots * slotBytes ≡ length r) × Ready r ⌝ }
+    ensures { λ r. ⌜ (deskSlots * slotBytes ≡ length r) × (r ≡ replicate (deskSlots * slotBytes) 0) ⌝ }
 {
     [0u8; SLOTS * register::SLOT_BYTES]
 }
 
 fn empty_nodes() -> [u16; NODES * nodes::WORDS]
-    ensures { λ r. ⌜ nodes * wordsPerNode ≡ length r ⌝ }
+    ensures { λ r. ⌜ (deskNodes * wordsPerNode ≡ length r) × (r ≡ replicate (deskNodes * wordsPerNode) 0) ⌝ }
 {
     [0u16; NODES * nodes::WORDS]
 }

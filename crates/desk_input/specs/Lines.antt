@@ -22,11 +22,12 @@ ended input = allButLast (parted lineFeed input)
 unfoldable pub unfinished : List ℕ → List ℕ
 unfinished input = lastOf (parted lineFeed input)
 
--- "the last may lack one": it is a line where there is anything
+-- [13.2] "the last may lack one": it is a line where there is anything
 unfoldable pub lastLine : List ℕ → List (List ℕ)
 lastLine [] = []
 lastLine (x ∷ l) = (x ∷ l) ∷ []
 
+-- [13.2] the lines of an input
 unfoldable pub linesOf : List ℕ → List (List ℕ)
 linesOf input = ended input ++ lastLine (unfinished input)
 

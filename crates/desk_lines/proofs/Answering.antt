@@ -19,8 +19,7 @@ use Rattle.register.specs.Calls.{registering}
 use Rattle.register.proofs.Laws.{sound-after-registering, length-after-registering}
 use Rattle.questions.specs.Questions.{isWithin, isContaining}
 use Rattle.ground.specs.Tables.{Tables, tables}
-use Rattle.catalogue.specs.Demands.{Question}
-use Rattle.catalogue.specs.Calls.{onRegister, inserting, finding, deleting, anyKit, allKits, writing}
+use Rattle.catalogue.specs.Calls.{Question, onRegister, inserting, finding, deleting, anyKit, allKits, writing}
 use Rattle.answers.specs.Answers.{reply}
 use Rattle.answers.specs.declared.Answer.{Answer}
 use Rattle.answers.proofs.Answers.{done-or-refused}
@@ -93,7 +92,7 @@ pub shown-put : {old new : List ℕ} {r : ℕ} (x : ℕ) (print : List ℕ → L
 unfolding shown
 shown-put x print p o a m q h = rw (← q .answers, ← q .lent) h
 
-leaves-same : {A : Type 0} (b : Reply) (m : A) → leaves b m m ≡ m
+pub leaves-same : {A : Type 0} (b : Reply) (m : A) → leaves b m m ≡ m
 unfolding leaves
 leaves-same (done v) m = refl
 leaves-same (refused n v) m = refl

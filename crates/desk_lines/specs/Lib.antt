@@ -1,3 +1,4 @@
--- Document 01, "The desk program": what each line answers, and what it leaves.
+-- Document 01, "The desk program": its sizes, what each line answers, and what it leaves.
+pub mod Sizes
 pub mod Desk
 pub mod Inner

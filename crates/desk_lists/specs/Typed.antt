@@ -10,13 +10,13 @@ pub data Typed : Type 0 where
   typed : List ℕ → Typed
   stopped : ℕ → ℕ → Typed
 
--- a pair whose number was looked up, in front of what the others come to
+-- [13.14] a pair whose number was looked up, in front of what the others come to
 unfoldable pub inFrontOf : Reply → ℕ → Typed → Typed
 inFrontOf (refused n v) q t = stopped n v
 inFrontOf (done p) q (typed l) = typed (p ∷ q ∷ l)
 inFrontOf (done p) q (stopped n v) = stopped n v
 
--- the pairs of some fields, with the register R; a number without a quantity is no pair, and its line answers `?`
+-- [13.12, 13.15] the pairs of some fields, with the register R; a number without a quantity is no pair, and its line answers `?`
 unfoldable pub lookedUp : List ℕ → List (List ℕ) → Typed
 lookedUp R [] = typed []
 lookedUp R (n ∷ []) = typed []

@@ -21,11 +21,12 @@ decimal n = digits (suc n) n
 unfoldable pub hexDigit : ℕ → ℕ
 hexDigit d = cond (ltb d 10) (zeroDigit + d) (0x41 - 10 + d)
 
+-- [13.18] "the sheet in capital hex": two digits for each byte
 unfoldable pub hexOf : List ℕ → List ℕ
 hexOf [] = []
 hexOf (b ∷ bs) = hexDigit (b / 16) ∷ hexDigit (b % 16) ∷ hexOf bs
 
--- tags, each behind a space
+-- [13.18] tags, each behind a space
 unfoldable pub tagsText : List ℕ → List ℕ
 tagsText [] = []
 tagsText (t ∷ ts) = (space ∷ decimal t) ++ tagsText ts
@@ -34,11 +35,11 @@ tagsText (t ∷ ts) = (space ∷ decimal t) ++ tagsText ts
 unfoldable pub replyHead : ℕ → ℕ → ℕ → List ℕ
 replyHead letter number value = letter ∷ space ∷ (decimal number ++ (space ∷ decimal value))
 
--- "A reply line is letter, number, value, then" the rest; "every reply ends in a line feed"
+-- [13.17] "A reply line is letter, number, value, then" the rest; "every reply ends in a line feed"
 unfoldable pub replyLine : ℕ → ℕ → ℕ → List ℕ → List ℕ
 replyLine letter number value rest = replyHead letter number value ++ (rest ++ (lineFeed ∷ []))
 
--- "Other lines answer `?`"
+-- [13.13] "Other lines answer `?`"
 abbrev pub otherLine : List ℕ
 otherLine = 0x3F ∷ lineFeed ∷ []
 

@@ -38,6 +38,6 @@ leadingZero f = not (eqb (length f) 1) && eqb (getD f 0 0) zeroDigit
 unfoldable pub small : List ℕ → Bool
 small f = every (allb isDigit f ∷ leb (amountOf f) largestAmount ∷ [])
 
--- "Tags and quantities are one to five digits, no leading zero unless just 0, at most 65,535"
+-- [13.10, 13.11] "Tags and quantities are one to five digits, no leading zero unless just 0, at most 65,535"
 unfoldable pub goodAmount : List ℕ → Bool
 goodAmount f = every (leb 1 (length f) ∷ leb (length f) mostDigits ∷ not (leadingZero f) ∷ small f ∷ [])

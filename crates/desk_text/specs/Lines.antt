@@ -15,21 +15,22 @@ space = 0x20
 abbrev pub lineFeed : ℕ
 lineFeed = 0x0A
 
--- "A line is at most 512 bytes before its line feed"
+-- [13.4] "A line is at most 512 bytes before its line feed"
 abbrev pub longestLine : ℕ
 longestLine = 512
 
--- "fields parted by one space"
+-- [13.5] "fields parted by one space"
 abbrev pub fieldsOf : List ℕ → List (List ℕ)
 fieldsOf l = parted space l
 
 abbrev pub fieldsFrom : List ℕ → ℕ → List (List ℕ)
 fieldsFrom l at = partedFrom space l at
 
+-- [13.6] no "empty field"
 unfoldable pub filled : List ℕ → Bool
 filled f = leb 1 (length f)
 
--- "number and quantity pairs": "a list may have no pairs"
+-- [13.9] "number and quantity pairs": "a list may have no pairs"
 unfoldable pub goodPairs : List (List ℕ) → Bool
 goodPairs [] = true
 goodPairs (n ∷ []) = false
@@ -57,7 +58,7 @@ unfoldable pub amountAndPairs : ℕ → List (List ℕ) → Parsed
 amountAndPairs x [] = none
 amountAndPairs x (t ∷ fs) = lineIf (goodAmount t && goodPairs fs) x (amountOf t) fs
 
--- what may stand behind the letter x: "too few or too many fields" are none of these
+-- [13.8] what may stand behind the letter x: "too few or too many fields" are none of these
 unfoldable pub behindLetter : ℕ → List (List ℕ) → Parsed
 behindLetter x fs =
     cond (eqb x registers) (exactly 1 x fs)
@@ -65,12 +66,12 @@ behindLetter x fs =
     (cond (eqb x writes) (exactly 0 x fs)
     (cond (anyb (eqb x) takesList) (pairs x fs) none)))
 
--- the first field is a letter
+-- [13.7] the first field is a letter
 unfoldable pub lettered : List (List ℕ) → Parsed
 lettered [] = none
 lettered (f ∷ fs) = cond (eqb (length f) 1) (behindLetter (getD f 0 0) fs) none
 
--- "Other lines answer `?`, once each: an empty or overlong line, an empty field, too few or too many fields"
+-- [13.4] "Other lines answer `?`, once each: an empty or overlong line, an empty field, too few or too many fields"
 unfoldable pub parsed : List ℕ → Parsed
 parsed l =
     cond (every (leb 1 (length l) ∷ leb (length l) longestLine ∷ allb filled (fieldsOf l) ∷ []))

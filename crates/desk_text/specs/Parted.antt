@@ -10,7 +10,7 @@ unfoldable pub inFront : ℕ → List (List ℕ) → List (List ℕ)
 inFront x [] = (x ∷ []) ∷ []
 inFront x (s ∷ ss) = (x ∷ s) ∷ ss
 
--- the stretches between the b's: one more than there are b's, empty ones too
+-- [13.5] the stretches between the b's: one more than there are b's, empty ones too
 unfoldable pub parted : ℕ → List ℕ → List (List ℕ)
 parted b [] = [] ∷ []
 parted b (x ∷ xs) = cond (eqb x b) ([] ∷ parted b xs) (inFront x (parted b xs))

@@ -2,6 +2,7 @@
 use mathlib.Core.List.{List}
 use Prim.Native.Nat.{ℕ}
 
+-- [1.2] "Register calls are lent only the register; all others both tables"
 pub record Tables : Type 0 where
   pub register : List ℕ
   pub nodes : List ℕ

@@ -8,11 +8,11 @@ use Rattle.nodes.specs.Nodes.{at, tagWord, size, nodesOf, isFree}
 use Rattle.nodes.specs.Held.{Kit}
 use Rattle.index_links.specs.Links.{childWith, link}
 
--- the lowest numbered free node; where there is none, the number of nodes
+-- [6.1] the lowest numbered free node; where there is none, the number of nodes
 unfoldable pub lowestFree : List ℕ → ℕ
 lowestFree N = firstOr (size N) (isFree N) (nodesOf N)
 
--- from node p down: the table with the row's missing nodes taken, shallow to deep, and the tag set at its end
+-- [6.1] from node p down: the table with the row's missing nodes taken, shallow to deep, and the tag set at its end
 unfoldable pub enter : List ℕ → ℕ → List ℕ → ℕ → List ℕ
 enter N p [] t = set N (at p tagWord) t
 enter N p (l ∷ ls) t =
@@ -20,12 +20,12 @@ enter N p (l ∷ ls) t =
     let f = lowestFree N in
     enter (cond (isZero c) (link N p l f) N) (cond (isZero c) f c) ls t
 
--- how many nodes the row lacks below p
+-- [6.3] how many nodes the row lacks below p
 unfoldable pub lacks : List ℕ → ℕ → List ℕ → ℕ
 lacks N p [] = 0
 lacks N p (l ∷ ls) = let c = childWith N p l in cond (isZero c) (length (l ∷ ls)) (lacks N c ls)
 
--- kits entered one after the other
+-- [12.17] kits entered one after the other
 unfoldable pub enterAll : List ℕ → List Kit → List ℕ
 enterAll N [] = N
 enterAll N (k ∷ ks) = enterAll (enter N 0 (k .row) (k .tag)) ks

@@ -27,17 +27,10 @@ use Rattle.sheet.specs.Reading.{Item, item, fault, decode, isFault, offset, sai
 use Rattle.sheet.specs.Calls.{sheetRefusals, roomRefusals}
 use Rattle.sheet.proofs.Laws.{encode-decode}
 use Rattle.ground.specs.Tables.{Tables, tables}
-use Rattle.sheet_read.specs.Filling.{filling}
+use Rattle.sheet_read.specs.Filling.{filling, Roomy}
 use Rattle.sheet_read.specs.Inner.{readingInto}
 use Rattle.sheet_read.proofs.Registered.{register-parts, register-sound, register-long, registerAll, registered-in-order}
 use Rattle.sheet_read.proofs.Listed.{Fits, fitting-fits, rising-earlier, kits-fillable, insertAll, inserted-in-order}
-
--- tables that have room for some contents
-pub record Roomy (c : Contents) (T : Tables) : Type 0 where
-  pub register-fits : registerLength (T .register) ≡ true
-  pub nodes-fit : nodesLength (T .nodes) ≡ true
-  pub slots : slotsNeeded c ≤ slotCount (T .register)
-  pub nodes : nodesNeeded c ≤ size (T .nodes)
 
 -- tables M that have just some contents, are sound, and are as long as T
 pub record Has (c : Contents) (T M : Tables) : Type 0 where

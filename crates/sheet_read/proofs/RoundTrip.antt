@@ -31,10 +31,10 @@ use Rattle.sheet.specs.Reading.{decode, isFault, said}
 use Rattle.sheet.specs.Calls.{writingOf, sheetRefusals, roomRefusals}
 use Rattle.sheet.proofs.Laws.{decode-encode}
 use Rattle.ground.specs.Tables.{Tables}
-use Rattle.sheet_read.specs.Filling.{filling}
+use Rattle.sheet_read.specs.Filling.{filling, Roomy}
 use Rattle.sheet_read.specs.Inner.{readingInto}
 use Rattle.sheet_read.proofs.Listed.{fits-fitting, earlier-rising, apart-tags, fits-kit}
-use Rattle.sheet_read.proofs.Reading.{Roomy, Has, filling-has, reading-again}
+use Rattle.sheet_read.proofs.Reading.{Has, filling-has, reading-again}
 
 -- Writing into an output with room
 written : (c : Contents) (o : List ℕ) → length (encode c) ≤ length o →

@@ -10,7 +10,7 @@ use Rattle.kits.specs.Kits.{mostUnits, mostPlace, units, count}
 use Rattle.nodes.specs.Held.{Kit}
 use Rattle.questions.specs.Questions.{fitting, allOf}
 
--- "a number d from 0 to 64": no kit lacks more than all its units
+-- [11.8] "a number d from 0 to 64": no kit lacks more than all its units
 abbrev pub mostShort : ℕ
 mostShort = mostUnits
 
@@ -18,18 +18,18 @@ unfoldable pub sumOver : (ℕ → ℕ) → List ℕ → ℕ
 sumOver f [] = 0
 sumOver f (x ∷ xs) = f x + sumOver f xs
 
--- "what it needs beyond the bin's quantity, never below zero for a part": a difference below zero is 0
+-- [11.6] "what it needs beyond the bin's quantity, never below zero for a part": a difference below zero is 0
 unfoldable pub lacking : List ℕ → List ℕ → ℕ → ℕ
 lacking bin kit p = count p kit - count p bin
 
--- "The shortfall of a kit is the sum over its parts": over every place
+-- [11.6] "The shortfall of a kit is the sum over its parts": over every place
 unfoldable pub shortfall : List ℕ → List ℕ → ℕ
 shortfall bin kit = sumOver (lacking bin kit) (from 0 (mostPlace + 1))
 
 unfoldable pub shortOf : List ℕ → Kit → ℕ
 shortOf bin k = shortfall bin (k .row)
 
--- "exactly those kits whose shortfall is at most d": a question like those on inclusion
+-- [11.7] "exactly those kits whose shortfall is at most d": a question like those on inclusion
 unfoldable pub isAlmost : ℕ → List ℕ → Kit → Bool
 isAlmost d bin k = leb (shortOf bin k) d
 
@@ -50,6 +50,6 @@ pub record OfOne (bin : List ℕ) (ks : List Kit) (t s : ℕ) : Type 0 where
   pub bears : t ≡ kit .tag
   pub lacks : s ≡ shortfall bin (kit .row)
 
--- both set down, behind other refusals
+-- [11.9] both set down, behind other refusals
 abbrev pub listAlmost : List Case → ℕ → List ℕ → List ℕ → Both → Plan Both
 listAlmost cs d l N o = setBoth cs (almostTags d l N) (almostShorts d l N) o

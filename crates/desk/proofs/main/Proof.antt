@@ -1,5 +1,6 @@
--- A register of zeros is sound, nothing is kept of a line, and the output has room for every reply.
+-- The tables are all zeros, nothing is kept of a line, and the output has room for every reply.
 use Rattle.desk.proofs.Serving.{keeps-none, room-enough}
+use Rattle.desk.proofs.Empty.{begun-tables}
 use borrow.Author.Needs.{needs}
 use Rattle.desk.proofs.main.Statement.{statement}
 use Rattle.desk.proofs.main.Tie as tie
@@ -52,15 +53,14 @@ serve-requires c κs =
     let at-reply-room : tie.After-reply-room = search in
     let at-sheet-room : tie.After-sheet-room = search in
     let at-output-places : tie.After-output-places = search in
+    let at-empty-nodes : tie.After-empty-nodes = search in
     let at-empty-register : tie.After-empty-register = search in (
       keeps-none _ (at-line-room .line-room .ensures),
-      record {
-        ready =
-            at-empty-register .empty-register .ensures .1;
-        room =
-            room-enough _ _ _ (at-output-places .output-places .ensures) (at-sheet-room .sheet-room .ensures)
-            (at-reply-room .reply-room .ensures);
-      },
+      (
+        begun-tables _ _ (at-empty-register .empty-register .ensures .1) (at-empty-nodes .empty-nodes .ensures .1),
+        room-enough _ _ _ (at-output-places .output-places .ensures) (at-sheet-room .sheet-room .ensures)
+            (at-reply-room .reply-room .ensures),
+      ),
     )
 
 returns : tie.Need-returns

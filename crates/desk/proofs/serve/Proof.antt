@@ -6,6 +6,7 @@ use borrow.Author.Needs.{needs}
 use Rattle.ground.specs.Tables.{tables}
 use Rattle.desk.specs.Inner.{AtHand, Keeps}
 use Rattle.desk.proofs.Serving.{SameLengths, same-start, Read, none-read, more-read, nothing-left, line-left}
+use Rattle.desk.proofs.Empty.{begun-ready}
 use Rattle.desk.proofs.serve.Statement.{statement}
 use Rattle.desk.proofs.serve.Tie as tie
 
@@ -13,7 +14,7 @@ abbrev Inv-loop : tie.InvT-loop
 Inv-loop kept₀ piece₀ reg₀ nodes₀ places₀ sheet₀ out₀ n₀ turns₀ kept piece reg nodes places sheet out n turns =
     Keeps kept n
     × AtHand (tables reg nodes) places sheet out
-    × Read (tables reg₀ nodes₀) kept n (tables reg nodes)
+    × Read kept n (tables reg nodes)
     × SameLengths reg₀ nodes₀ places₀ sheet₀ out₀ reg nodes places sheet out
     × (length kept ≡ length kept₀)
     × (length piece ≡ length piece₀)
@@ -26,8 +27,8 @@ loop-holds : tie.Need-loop-holds Inv-loop μ-loop
 loop-holds c =
     let start : tie.Start Inv-loop μ-loop = search in (
       start .pre .0,
-      start .pre .1,
-      none-read _ _,
+      record { ready = begun-ready _ (start .pre .1 .0); room = start .pre .1 .1 },
+      none-read _ _ (start .pre .1 .0),
       same-start _ _ _ _ _,
       refl,
       refl,

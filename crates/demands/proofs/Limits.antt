@@ -1,0 +1,41 @@
+-- The limits, computed.
+use mathlib.Core.Path.{refl}
+use Rattle.demands.specs.Limits.{registeredAlone, mayStand, fiveParts, pathFrom, pathAnswer, listNumber, twoKits, wordsAfter, readIn, NumberLimits, LengthLimits}
+use Rattle.demands.specs.Limits.{PathLimits, ListLimits, RoomLimits, OrderOfRefusals, NodeWords, SheetLimits, Limits}
+use Rattle.demands.proofs.Opened.{opened}
+
+number-limits : NumberLimits
+unfolding opened registeredAlone mayStand
+number-limits = (refl, refl, refl, refl)
+
+length-limits : LengthLimits
+unfolding opened
+length-limits = (refl, refl, refl, refl, refl, refl, refl, refl)
+
+path-limits : PathLimits
+unfolding opened fiveParts pathFrom pathAnswer
+path-limits = (refl, refl, refl, refl)
+
+list-limits : ListLimits
+unfolding opened fiveParts listNumber
+list-limits = (refl, refl, refl, refl)
+
+room-limits : RoomLimits
+unfolding opened fiveParts twoKits
+room-limits = (refl, refl, refl, refl, refl, refl)
+
+order-of-refusals : OrderOfRefusals
+unfolding opened fiveParts twoKits
+order-of-refusals =
+    (refl, refl, refl, refl, refl, refl, refl, refl, refl, refl, refl, refl, refl, refl, refl, refl, refl, refl, refl, refl, refl, refl)
+
+node-words : NodeWords
+unfolding opened wordsAfter
+node-words = (refl, refl, refl)
+
+sheet-limits : SheetLimits
+unfolding opened readIn
+sheet-limits = (refl, refl, refl, refl, refl, refl, refl, refl, refl, refl, refl, refl)
+
+pub limits : Limits
+limits = (number-limits, length-limits, path-limits, list-limits, room-limits, order-of-refusals, node-words, sheet-limits)

@@ -1,0 +1,47 @@
+-- Every definition that the calls stand on, opened at once, so that an example can be computed: a test says `unfolding opened` and `refl`.
+use mathlib.Core.Bool.{Bool, true}
+use Rattle.ground.specs.Lists.{allb, anyb, every, keep, distinct, concat, eqList, from, firstOr}
+use Rattle.ground.specs.Laid.{laid}
+use Rattle.ground.specs.Calls.{decide, answer, leaves, memory, setDown, setBoth}
+use Rattle.register.specs.Number.{goodByte, goodNumber}
+use Rattle.register.specs.Register.{registerLength, slotOf, slotAt, numberIn, slotGood, unusedAt, usedAt, numberAt, partsOf, usedHolds}
+use Rattle.register.specs.Register.{usedFirst, unusedZero, noneTwice, registerSound, placeFrom, placeIn, registerOf}
+use Rattle.register.specs.Calls.{lentRegister, numberRefusals, registering, lookingUp, showing}
+use Rattle.kits.specs.Kits.{lineValue, lineFaults, linesFaults, listFaults, units, count, noMore, includes, before, linesFrom, listOf}
+use Rattle.kits.specs.Kits.{caseTest, goodList}
+use Rattle.nodes.specs.Nodes.{nodesLength, nodesOf, othersOf, zeroWord, isFree, isUsed, freeNodes, usedNodes, tagged, path, rowOf}
+use Rattle.nodes.specs.Nodes.{chain, children}
+use Rattle.nodes.specs.Sound.{rootGood, parentGood, depthGood, labelGood, fewEqual, linksInside, childGood, nextGood, onChain}
+use Rattle.nodes.specs.Sound.{endTagged, tagsDiffer, usedOthers, nodesSound}
+use Rattle.nodes.specs.Held.{putKit, inOrder, tagIn, tagsOf, kitAt, held, firstTag, beginnings, addNew, allBeginnings}
+use Rattle.index_links.specs.Links.{hasLabel, childWith, lastBelow, linkTo, link, unlink, nodeOf}
+use Rattle.index_insert.specs.Enter.{lowestFree, enter, lacks, enterAll}
+use Rattle.index_delete.specs.Strike.{prune, strikeAt, strike}
+use Rattle.index.specs.Index.{entryRefusals, missingRefusals}
+use Rattle.questions.specs.Questions.{isWithin, isContaining, fitting, allOf, anyOf}
+use Rattle.shortfalls.specs.Shortfalls.{sumOver, lacking, shortfall, shortOf, isAlmost, shortsOf}
+use Rattle.sheet.specs.Bytes.{inBytes, valueFrom}
+use Rattle.sheet.specs.Sheet.{encode, numberItem, numberItems, lineItems, recordItem, recordItems}
+use Rattle.sheet.specs.Reading.{onward, one, bytes, anyTwo, isVersion, goodPartCount, numberSize, newNumber, numbers, recordSize}
+use Rattle.sheet.specs.Reading.{linesRead, listIn, kitIn, hasTag, follows, newKit, unless, records, front, runOf, whole, decode}
+use Rattle.sheet.specs.Reading.{isFault, offset, said}
+use Rattle.sheet.specs.Calls.{roomRefusals, sheetRefusals}
+use Rattle.sheet_read.specs.Filling.{filling}
+use Rattle.tables.specs.Lent.{lengths, lentBoth, lentList}
+use Rattle.catalogue.specs.Calls.{planOf, inserting, deleting, allKits, almostKits, anyKit, writing, emptying, finding, reading}
+use Rattle.demands.specs.Model.{run, begun, tablesOf, log}
+
+unfoldable pub opened : Bool
+unfolding allb anyb every keep distinct concat eqList from firstOr laid decide answer leaves memory setDown setBoth goodByte goodNumber
+    registerLength slotOf slotAt numberIn slotGood unusedAt usedAt numberAt partsOf usedHolds usedFirst unusedZero noneTwice
+    registerSound placeFrom placeIn registerOf lentRegister numberRefusals registering lookingUp showing lineValue lineFaults
+    linesFaults listFaults units count noMore includes before linesFrom listOf caseTest goodList nodesLength nodesOf othersOf zeroWord
+    isFree isUsed freeNodes usedNodes tagged path rowOf chain children rootGood parentGood depthGood labelGood fewEqual linksInside
+    childGood nextGood onChain endTagged tagsDiffer usedOthers nodesSound putKit inOrder tagIn tagsOf kitAt held firstTag beginnings
+    addNew allBeginnings hasLabel childWith lastBelow linkTo link unlink nodeOf lowestFree enter lacks enterAll prune strikeAt strike
+    entryRefusals missingRefusals isWithin isContaining fitting allOf anyOf sumOver lacking shortfall shortOf isAlmost shortsOf inBytes
+    valueFrom encode numberItem numberItems lineItems recordItem recordItems onward one bytes anyTwo isVersion goodPartCount numberSize
+    newNumber numbers recordSize linesRead listIn kitIn hasTag follows newKit unless records front runOf whole decode isFault offset
+    said roomRefusals sheetRefusals filling lengths lentBoth lentList planOf inserting deleting allKits almostKits anyKit writing
+    emptying finding reading run begun tablesOf log
+opened = true

@@ -1,0 +1,228 @@
+-- Every limit of document 01, on both sides of its bound, and every pair of neighbours in its order of refusals, in literal numbers, to be held
+-- against the document's words. Computed. Proof: proofs/Limits, `limits`
+use mathlib.Core.Path.{_≡_}
+use mathlib.Core.Bool.{Bool}
+use mathlib.Core.List.{List, [], _∷_, _++_, map}
+use Prim.Native.Nat.{ℕ, zero, suc, _+_, _-_, _*_, _/_}
+use lib.ListN.{take, replicate}
+use Rattle.ground.specs.Lists.{from, keep, isZero}
+use Rattle.ground.specs.Calls.{Reply, done, refused, numberOf, valueOf, answer, both}
+use Rattle.ground.specs.Tables.{Tables, tables}
+use Rattle.register.specs.Calls.{registering, lookingUp, showing}
+use Rattle.questions.specs.Questions.{isWithin, isContaining}
+use Rattle.sheet.specs.Sheet.{encode}
+use Rattle.catalogue.specs.Calls.{Call, registerPart, insertKit, deleteKit, emptying, inserting, finding, anyKit, allKits, almostKits, reading}
+use Rattle.demands.specs.Model.{has, tablesOf}
+
+-- tables of so many bytes and words, all zero, and of so many slots and nodes
+abbrev pub zeroTables : ℕ → ℕ → Tables
+zeroTables r n = tables (replicate r 0) (replicate n 0)
+
+abbrev pub emptyTables : ℕ → ℕ → Tables
+emptyTables slots nodes = zeroTables (slots * 32) (nodes * 6)
+
+------------------------------------------------------------------------
+-- "A part number is 1 to 24 bytes, each a digit, a capital A to Z, hyphen, full stop or slash."
+
+unfoldable pub registeredAlone : List ℕ → Reply
+registeredAlone n = answer (registering n (replicate 32 0))
+
+unfoldable pub mayStand : ℕ → Bool
+mayStand b = isZero (numberOf (registeredAlone (b ∷ [])))
+
+abbrev pub NumberLimits : Type 0
+NumberLimits =
+    (registeredAlone [] ≡ refused 3 0)
+    × (registeredAlone (replicate 24 0x41) ≡ done 1)
+    × (registeredAlone (replicate 25 0x41) ≡ refused 3 0)
+    -- of all bytes: - . / 0 to 9, A to Z
+    × (keep mayStand (from 0 256) ≡ from 0x2D 13 ++ from 0x41 26)
+
+------------------------------------------------------------------------
+-- "Its length is a multiple of 32 from 32 to 8,160 (1 to 255 parts)." "Lent 16-bit words, six per node .. 1 to 4,096 nodes."
+
+abbrev pub LengthLimits : Type 0
+LengthLimits =
+    (answer (emptying (emptyTables 255 4096)) ≡ done 0)
+    × (answer (emptying (emptyTables 256 1)) ≡ refused 1 0)
+    × (answer (emptying (emptyTables 1 4097)) ≡ refused 1 0)
+    × (answer (emptying (zeroTables 32 6)) ≡ done 0)
+    × (answer (emptying (zeroTables 0 6)) ≡ refused 1 0)
+    × (answer (emptying (zeroTables 32 0)) ≡ refused 1 0)
+    × (answer (emptying (zeroTables 33 6)) ≡ refused 1 0)
+    × (answer (emptying (zeroTables 32 7)) ≡ refused 1 0)
+
+------------------------------------------------------------------------
+-- "depth one more than its parent's and at most 64", "no path has more than 15 equal labels"
+
+-- the five parts A to E, and so many nodes
+unfoldable pub fiveParts : ℕ → Tables
+fiveParts n = tablesOf (record { slots = 5; room = n; calls = map (λ b. registerPart (b ∷ [])) (from 0x41 5) })
+
+-- the n nodes of a path from node i on, so many of them to a label; the last has the tag 9
+unfoldable pub pathFrom : ℕ → ℕ → ℕ → List ℕ
+pathFrom each i zero = []
+pathFrom each i (suc zero) = (i - 1) ∷ 0 ∷ 0 ∷ ((i - 1) / each + 1) ∷ i ∷ 9 ∷ []
+pathFrom each i (suc (suc n)) = (i - 1) ∷ (i + 1) ∷ 0 ∷ ((i - 1) / each + 1) ∷ i ∷ 0 ∷ pathFrom each (i + 1) (suc n)
+
+-- what is answered of the empty kit: it is not held, or the table is not sound
+unfoldable pub pathAnswer : ℕ → ℕ → Reply
+pathAnswer each n = answer (finding [] (tables (fiveParts 1 .register) (0 ∷ 1 ∷ 0 ∷ 0 ∷ 0 ∷ 0 ∷ pathFrom each 1 n)))
+
+abbrev pub PathLimits : Type 0
+PathLimits =
+    (pathAnswer 15 64 ≡ refused 11 0)
+    × (pathAnswer 15 65 ≡ refused 2 0)
+    × (pathAnswer 16 15 ≡ refused 11 0)
+    × (pathAnswer 16 16 ≡ refused 2 0)
+
+------------------------------------------------------------------------
+-- "Places strictly rise; each quantity is 1 to 15. An empty list is good." "then 4 for odd length; then line by line 4, 5, 6"
+
+unfoldable pub listNumber : List ℕ → ℕ
+listNumber l = numberOf (answer (anyKit isWithin l (fiveParts 1)))
+
+abbrev pub ListLimits : Type 0
+ListLimits =
+    (map listNumber ([] ∷ (1 ∷ 1 ∷ []) ∷ (1 ∷ 15 ∷ []) ∷ (5 ∷ 1 ∷ []) ∷ (1 ∷ 1 ∷ 2 ∷ 1 ∷ []) ∷ []) ≡ replicate 5 0)
+    -- 4: odd, place 0, equal, falling; each beside a quantity that is wrong
+    × (map listNumber ((1 ∷ []) ∷ (1 ∷ 0 ∷ 2 ∷ []) ∷ (0 ∷ 0 ∷ []) ∷ (1 ∷ 1 ∷ 1 ∷ 0 ∷ []) ∷ (2 ∷ 1 ∷ 1 ∷ 0 ∷ []) ∷ []) ≡ replicate 5 4)
+    -- 5: beyond the parts; beside a wrong quantity, and before the next line's 4
+    × (map listNumber ((6 ∷ 1 ∷ []) ∷ (6 ∷ 16 ∷ []) ∷ (6 ∷ 1 ∷ 6 ∷ 1 ∷ []) ∷ []) ≡ replicate 3 5)
+    -- 6: below 1, above 15, and before the next line's 4
+    × (map listNumber ((1 ∷ 0 ∷ []) ∷ (1 ∷ 16 ∷ []) ∷ (1 ∷ 16 ∷ 1 ∷ 1 ∷ []) ∷ []) ≡ replicate 3 6)
+
+------------------------------------------------------------------------
+-- "A kit is at most 64 units"; "insertion needs more nodes than are free (value: how many too few)"; "an output exactly full and one short"
+
+-- 60 units, and so many of part E
+abbrev pub sixtyAnd : ℕ → List ℕ
+sixtyAnd n = 1 ∷ 15 ∷ 2 ∷ 15 ∷ 3 ∷ 15 ∷ 4 ∷ 15 ∷ 5 ∷ n ∷ []
+
+-- two kits in the room of three nodes: A with the tag 1, and A A with the tag 2
+unfoldable pub twoKits : Tables
+twoKits = tablesOf (record {
+  slots = 1;
+  room = 3;
+  calls = registerPart (0x41 ∷ []) ∷ insertKit (1 ∷ 1 ∷ []) 1 ∷ insertKit (1 ∷ 2 ∷ []) 2 ∷ [];
+})
+
+abbrev pub RoomLimits : Type 0
+RoomLimits =
+    (answer (inserting (sixtyAnd 4) 7 (fiveParts 65)) ≡ done 64)
+    × (answer (inserting (sixtyAnd 4) 7 (fiveParts 64)) ≡ refused 12 1)
+    × (answer (inserting (sixtyAnd 5) 7 (fiveParts 66)) ≡ refused 7 0)
+    × (answer (finding (sixtyAnd 5) (fiveParts 1)) ≡ refused 11 0)
+    × (answer (allKits isContaining [] twoKits (0 ∷ 0 ∷ [])) ≡ done 2)
+    × (answer (allKits isContaining [] twoKits (0 ∷ [])) ≡ refused 12 2)
+
+------------------------------------------------------------------------
+-- "Order: 1 register, 1 nodes, 2 register, 2 nodes (of the tables lent), then 8; then 4 for odd length; .. then 7, 9, 10, 11, 12. For numbers:
+-- 3, then 9 or 11, then 12. Reading: 1 for each table, then 13, then 12": two faults at once, and the first is answered
+
+-- a register of one slot that is not sound, and a node table of one node that is not
+abbrev pub badRegister : List ℕ
+badRegister = replicate 32 1
+
+abbrev pub badNodes : List ℕ
+badNodes = 1 ∷ 0 ∷ 0 ∷ 0 ∷ 0 ∷ 0 ∷ []
+
+abbrev pub OrderOfRefusals : Type 0
+OrderOfRefusals =
+    -- 1 nodes and 2 register; 1 register and 2 nodes
+    (answer (finding [] (tables badRegister [])) ≡ refused 1 0)
+    × (answer (finding [] (tables [] badNodes)) ≡ refused 1 0)
+    -- 2 register and 8; 2 nodes and 8; 8 and 4; 6 and 7
+    × (answer (inserting [] 0 (tables badRegister (replicate 6 0))) ≡ refused 2 0)
+    × (answer (inserting [] 0 (tables (replicate 32 0) badNodes)) ≡ refused 2 0)
+    × (answer (inserting (1 ∷ []) 0 twoKits) ≡ refused 8 0)
+    × (answer (inserting (sixtyAnd 16) 7 (fiveParts 1)) ≡ refused 6 0)
+    -- 7 and 12; 9 and 10; 10 and 12; 12 alone
+    × (answer (inserting (sixtyAnd 5) 7 (fiveParts 1)) ≡ refused 7 0)
+    × (answer (inserting (1 ∷ 1 ∷ []) 2 twoKits) ≡ refused 9 1)
+    × (answer (inserting (1 ∷ 3 ∷ []) 2 twoKits) ≡ refused 10 0)
+    × (answer (inserting (1 ∷ 4 ∷ []) 3 twoKits) ≡ refused 12 2)
+    -- listings: 6 and 12; 6 and 14; 14 and 12
+    × (answer (allKits isContaining (1 ∷ 0 ∷ []) twoKits []) ≡ refused 6 0)
+    × (answer (almostKits 65 (1 ∷ 0 ∷ []) twoKits (both [] [])) ≡ refused 6 0)
+    × (answer (almostKits 65 [] twoKits (both [] [])) ≡ refused 14 0)
+    × (answer (almostKits 64 [] twoKits (both [] [])) ≡ refused 12 2)
+    -- numbers: 1 and 3; 2 and 3; 3 and 12; 9 and 12; 12 alone; 11
+    × (answer (registering [] []) ≡ refused 1 0)
+    × (answer (registering [] badRegister) ≡ refused 2 0)
+    × (answer (registering [] (twoKits .register)) ≡ refused 3 0)
+    × (answer (registering (0x41 ∷ []) (twoKits .register)) ≡ refused 9 1)
+    × (answer (registering (0x42 ∷ []) (twoKits .register)) ≡ refused 12 1)
+    × (answer (lookingUp (0x42 ∷ []) (twoKits .register)) ≡ refused 11 0)
+    -- places: 2 and 11; 0, the last and one beyond
+    × (answer (showing 0 badRegister) ≡ refused 2 0)
+    × (map (λ p. numberOf (answer (showing p (twoKits .register)))) (0 ∷ 1 ∷ 2 ∷ []) ≡ 11 ∷ 0 ∷ 11 ∷ [])
+
+------------------------------------------------------------------------
+-- "parent, first child, next sibling, label, depth, tag". "Insertion takes missing nodes from shallow to deep, each the lowest numbered free
+-- one." "Freed nodes are used again."
+
+-- the words of five nodes, after some calls behind the registration of three parts
+unfoldable pub wordsAfter : List Call → List ℕ
+wordsAfter cs = tablesOf (record {
+  slots = 3;
+  room = 5;
+  calls = registerPart (0x41 ∷ []) ∷ registerPart (0x42 ∷ []) ∷ registerPart (0x43 ∷ []) ∷ cs;
+}) .nodes
+
+abbrev pub twoEntered : List Call
+twoEntered = insertKit (1 ∷ 2 ∷ []) 7 ∷ insertKit (2 ∷ 1 ∷ []) 8 ∷ []
+
+abbrev pub NodeWords : Type 0
+NodeWords =
+    (wordsAfter twoEntered ≡ 0 ∷ 1 ∷ 0 ∷ 0 ∷ 0 ∷ 0
+    ∷ 0 ∷ 2 ∷ 3 ∷ 1 ∷ 1 ∷ 0
+    ∷ 1 ∷ 0 ∷ 0 ∷ 1 ∷ 2 ∷ 7
+    ∷ 0 ∷ 0 ∷ 0 ∷ 2 ∷ 1 ∷ 8
+    ∷ replicate 6 0)
+    × (wordsAfter (twoEntered ++ (deleteKit (1 ∷ 2 ∷ []) ∷ [])) ≡ 0 ∷ 3 ∷ 0 ∷ 0 ∷ 0 ∷ 0
+    ∷ (replicate 12 0 ++ (0 ∷ 0 ∷ 0 ∷ 2 ∷ 1 ∷ 8
+    ∷ replicate 6 0)))
+    × (wordsAfter (twoEntered ++ (deleteKit (1 ∷ 2 ∷ []) ∷ insertKit (3 ∷ 1 ∷ []) 9 ∷ [])) ≡ 0 ∷ 3 ∷ 0 ∷ 0 ∷ 0 ∷ 0
+    ∷ 0 ∷ 0 ∷ 0 ∷ 3 ∷ 1 ∷ 9
+    ∷ (replicate 6 0 ++ (0 ∷ 0 ∷ 1 ∷ 2 ∷ 1 ∷ 8
+    ∷ replicate 6 0)))
+
+------------------------------------------------------------------------
+-- The sheet: "13's value is the offset where the first faulty item starts", and what reading needs
+
+-- the parts a and b, and the kits (1) and (2) with the tags t and u
+abbrev pub sampleSheet : ℕ → ℕ → ℕ → ℕ → List ℕ
+sampleSheet a b t u =
+    0x4B ∷ 0x49 ∷ 0x54 ∷ 0 ∷ 1 ∷ 0 ∷ 2 ∷ 1 ∷ a ∷ 1 ∷ b ∷ 0 ∷ 2 ∷ 0 ∷ t ∷ 1 ∷ 1 ∷ 1 ∷ 0 ∷ u ∷ 1 ∷ 2 ∷ 1 ∷ []
+
+unfoldable pub readIn : ℕ → ℕ → List ℕ → Reply
+readIn slots nodes s = answer (reading s (emptyTables slots nodes))
+
+-- three parts, and three kits that need five nodes
+abbrev pub largerSheet : List ℕ
+largerSheet = encode (has ((0x41 ∷ []) ∷ (0x42 ∷ []) ∷ (0x43 ∷ []) ∷ [])
+    (record { row = 1 ∷ []; tag = 9 } ∷ record { row = 1 ∷ 1 ∷ 3 ∷ []; tag = 7 } ∷ record { row = 2 ∷ []; tag = 5 } ∷ []))
+
+abbrev pub SheetLimits : Type 0
+SheetLimits =
+    (readIn 2 3 (sampleSheet 0x41 0x42 7 9) ≡ done 2)
+    -- cut at every byte: mark, version, part count, two numbers, kit count, two records
+    × (map (λ n. valueOf (readIn 2 3 (take n (sampleSheet 0x41 0x42 7 9)))) (from 0 23) ≡ replicate 3 0 ++ (3 ∷ 3 ∷ 5 ∷ 5 ∷ 7 ∷ 7 ∷ 9 ∷ 9 ∷ 11 ∷ 11 ∷
+    (replicate 5 13 ++ replicate 5 18)))
+    -- bytes behind the end; a bad number; a number twice; tag 0; a tag twice
+    × (readIn 2 3 (sampleSheet 0x41 0x42 7 9 ++ (0 ∷ [])) ≡ refused 13 23)
+    × (readIn 2 3 (sampleSheet 0x40 0x42 7 9) ≡ refused 13 7)
+    × (readIn 2 3 (sampleSheet 0x41 0x41 7 9) ≡ refused 13 9)
+    × (readIn 2 3 (sampleSheet 0x41 0x42 0 9) ≡ refused 13 13)
+    × (readIn 2 3 (sampleSheet 0x41 0x42 7 7) ≡ refused 13 18)
+    -- 1 and 13; 13 and 12; slots' 12 and nodes' 12; nodes' 12; just enough
+    × (readIn 0 3 [] ≡ refused 1 0)
+    × (readIn 1 1 (sampleSheet 0x41 0x42 7 9 ++ (0 ∷ [])) ≡ refused 13 23)
+    × (readIn 2 4 largerSheet ≡ refused 12 3)
+    × (readIn 3 4 largerSheet ≡ refused 12 5)
+    × (readIn 3 5 largerSheet ≡ done 3)
+
+-- [15.1]
+abbrev pub Limits : Type 0
+Limits = NumberLimits × LengthLimits × PathLimits × ListLimits × RoomLimits × OrderOfRefusals × NodeWords × SheetLimits

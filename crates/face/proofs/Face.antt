@@ -1,0 +1,58 @@
+-- A promise below, and its answer taken apart, are what the face promises; and the stretch that shows a number, by numbers.
+use mathlib.Core.Path.{_≡_, refl, sym, ap, subst, _∙_}
+use mathlib.Core.Bool.{true}
+use mathlib.Core.List.{List}
+use Prim.Native.Nat.{ℕ, _+_, _-_, _*_, _<_, _≤_}
+use native.Mathlib.Omega.{arith}
+use lib.ListN.{length, take, drop, getD, length-drop}
+use lib.Seq.{length-take-le}
+use Rattle.ground.specs.Calls.{Plan, Reply, done, refused, answer, leaves, numberOf, valueOf, isRefused, Promise}
+use Rattle.ground.proofs.Calls.{leaves-done, refused-leaves}
+use Rattle.register.specs.Register.{partsOf, slotBytes}
+use Rattle.register.specs.Calls.{showing, stretchFrom, stretchSize}
+use Rattle.register.proofs.Sound.{ready-short}
+use Rattle.register.proofs.Answers.{shows}
+use Rattle.face.specs.Face.{Handed, Crosses}
+
+-- what is handed over is what the plan answers
+pub handed-answer : {r s : Reply} {n v : ℕ} → Handed r n v → r ≡ s → Handed s n v
+handed-answer h e = record { number-is = h .number-is ∙ ap numberOf e; value-is = h .value-is ∙ ap valueOf e }
+
+pub crossed : {A : Type 0} {call : A → Plan A} {old new : A} {r : Reply} {n v : ℕ} → Promise (call old) old r new → Handed r n v →
+    Crosses call old n v new
+crossed p h = record { answers = handed-answer h (p .answers); lent = p .lent }
+
+-- a reply that the plan answers is as small as the plan's
+pub reply-small : {r s : Reply} (b : ℕ) → r ≡ s → valueOf s < b → valueOf r < b
+reply-small b e l = subst (λ x. valueOf x < b) (sym e) l
+
+-- where a stretch starts
+pub from-refused : (p : ℕ) (R : List ℕ) (r : Reply) → r ≡ answer (showing p R) → isRefused r ≡ true → 0 ≡ stretchFrom p R
+unfolding stretchFrom
+from-refused p R r e t = sym (refused-leaves (answer (showing p R)) 0 ((p - 1) * slotBytes + 1) (ap isRefused (sym e) ∙ t))
+
+pub from-done : (p : ℕ) (R : List ℕ) (q v : ℕ) → answer (showing p R) ≡ done v → q ≡ p → (q - 1) * slotBytes + 1 ≡ stretchFrom p R
+unfolding stretchFrom
+from-done p R q v e w =
+    ap (λ x. (x - 1) * slotBytes + 1) w ∙ sym (leaves-done (answer (showing p R)) v 0 ((p - 1) * slotBytes + 1) e)
+
+-- a number shown lies inside the register
+size-done : (p : ℕ) (R : List ℕ) (v : ℕ) → answer (showing p R) ≡ done v →
+    length (take (getD R ((p - 1) * slotBytes) 0) (drop ((p - 1) * slotBytes + 1) R)) ≡ getD R ((p - 1) * slotBytes) 0
+size-done p R v e =
+    let s = shows R p v e in
+    let t = ready-short R (s .ready) (length (partsOf R)) refl in
+    let short = t .short (p - 1) (omega (arith, s .some, s .held)) in
+    length-take-le _ _ (simp length-drop (omega (arith, s .some, s .held, t .inside, short)))
+
+size-by : (p : ℕ) (R : List ℕ) (a : Reply) → answer (showing p R) ≡ a →
+    length (take (leaves a 0 (getD R ((p - 1) * slotBytes) 0)) (drop (leaves a 0 ((p - 1) * slotBytes + 1)) R))
+    ≡ leaves a 0 (getD R ((p - 1) * slotBytes) 0)
+unfolding leaves
+size-by p R (done v) e = size-done p R v e
+size-by p R (refused n v) e = refl
+
+-- so the stretch has as many bytes as it is promised
+pub stretch-long : (p : ℕ) (R r : List ℕ) → r ≡ take (stretchSize p R) (drop (stretchFrom p R) R) → length r ≡ stretchSize p R
+unfolding stretchFrom stretchSize
+stretch-long p R r h = ap length h ∙ size-by p R (answer (showing p R)) refl

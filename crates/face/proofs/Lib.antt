@@ -1,0 +1,2 @@
+-- The laws of the face.
+mod Face

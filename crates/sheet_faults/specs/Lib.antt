@@ -1,0 +1,2 @@
+-- Where a torn sheet is at fault.
+pub mod Faults
