@@ -40,8 +40,8 @@ SheetIsWritten =
     (a : Catalogue) (o : List ℕ) → Allowed a → length (encode (listedIn (entered a))) ≤ length o → Writes (tablesOf a) o
     (encode (listedIn (entered a)))
 
--- [14.11] (so that what is said of reading is not empty) what a catalogue writes, read into any tables of right lengths with room, is accepted, with the number of its kits as
--- the value, and the tables then have the same. Proof: Sheets, `read-back`
+-- [14.11] (so that what is said of reading is not empty) what a catalogue writes, read into any tables of right lengths with room, is
+-- accepted, with the number of its kits as the value, and the tables then have the same. Proof: Sheets, `read-back`
 abbrev pub ReadBack : Type 0
 ReadBack =
     (a : Catalogue) (o s : List ℕ) (T : Tables) → Allowed a → Writes (tablesOf a) o s → Roomy (entered a) T →

@@ -208,8 +208,8 @@ abbrev pub SheetLimits : Type 0
 SheetLimits =
     (readIn 2 3 (sampleSheet 0x41 0x42 7 9) ≡ done 2)
     -- cut at every byte: mark, version, part count, two numbers, kit count, two records
-    × (map (λ n. valueOf (readIn 2 3 (take n (sampleSheet 0x41 0x42 7 9)))) (from 0 23) ≡ replicate 3 0 ++ (3 ∷ 3 ∷ 5 ∷ 5 ∷ 7 ∷ 7 ∷ 9 ∷ 9 ∷ 11 ∷ 11 ∷
-    (replicate 5 13 ++ replicate 5 18)))
+    × (map (λ n. valueOf (readIn 2 3 (take n (sampleSheet 0x41 0x42 7 9)))) (from 0 23)
+    ≡ replicate 3 0 ++ (3 ∷ 3 ∷ 5 ∷ 5 ∷ 7 ∷ 7 ∷ 9 ∷ 9 ∷ 11 ∷ 11 ∷ (replicate 5 13 ++ replicate 5 18)))
     -- bytes behind the end; a bad number; a number twice; tag 0; a tag twice
     × (readIn 2 3 (sampleSheet 0x41 0x42 7 9 ++ (0 ∷ [])) ≡ refused 13 23)
     × (readIn 2 3 (sampleSheet 0x40 0x42 7 9) ≡ refused 13 7)

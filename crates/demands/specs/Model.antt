@@ -80,11 +80,11 @@ tablesOf a = run (a .calls) (begun a)
 unfoldable pub entered : Catalogue → Contents
 entered a = model (log (a .calls) (begun a)) (has [] [])
 
--- the same, the kits in listing order: what its tables have. Proof: Answers, `has-what-was-entered`
+-- the same, the kits in listing order
 abbrev pub listedIn : Contents → Contents
 listedIn m = has (m .parts) (inOrder (m .kits))
 
--- [14.5]
+-- [14.5] what its tables have. Proof: Answers, `has-what-was-entered`
 abbrev pub HasWhatWasEntered : Type 0
 HasWhatWasEntered = (a : Catalogue) → Allowed a → contents (tablesOf a) ≡ listedIn (entered a)
 

@@ -10,8 +10,8 @@ use Rattle.nodes.specs.Nodes.{usedNodes}
 use Rattle.questions.specs.Questions.{isWithin, isContaining}
 use Rattle.ground.specs.Tables.{Tables, tables}
 use Rattle.sheet.specs.Sheet.{Contents}
-use Rattle.catalogue.specs.Calls.{Call, registerPart, insertKit, deleteKit, anyWithin, anyContaining, allKits, almostKits, deleting, writing, reading, contents}
-use Rattle.catalogue.specs.Calls.{Question}
+use Rattle.catalogue.specs.Calls.{Question, contents, Call, registerPart, insertKit, deleteKit, anyWithin, anyContaining, allKits}
+use Rattle.catalogue.specs.Calls.{almostKits, deleting, writing, reading}
 use Rattle.demands.specs.Model.{has, log, tablesOf}
 
 -- kits inserted by their units, with the tags t, t + 1, ..
