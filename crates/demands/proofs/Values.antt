@@ -151,27 +151,27 @@ both-fit : (T : Tables) → Every SmallValue (lentBoth T)
 unfolding lentBoth
 both-fit T = every-append (lengths-fit T) (also some-limit (also some-limit none))
 
-line-fits : (k : ℕ) → lineValue k < limit
+line-value-fits : (k : ℕ) → lineValue k < limit
 unfolding lineValue
-line-fits k = omega arith
+line-value-fits k = omega arith
 
 lines-fit : (n prev k : ℕ) (l : List ℕ) → Every SmallValue (linesFaults n prev k l)
 unfolding lineFaults linesFaults
 lines-fit n prev k [] = none
 lines-fit n prev k (p ∷ []) = none
-lines-fit n prev k (p ∷ q ∷ l) = also (line-fits k) (also (line-fits k) (also (line-fits k) (lines-fit n p (suc k) l)))
+lines-fit n prev k (p ∷ q ∷ l) = also (line-value-fits k) (also (line-value-fits k) (also (line-value-fits k) (lines-fit n p (suc k) l)))
 
 faults-fit : (n : ℕ) (l : List ℕ) → Every SmallValue (listFaults n l)
 unfolding listFaults
-faults-fit n l = also (line-fits (length l / 2 + 1)) (lines-fit n 0 1 l)
+faults-fit n l = also (line-value-fits (length l / 2 + 1)) (lines-fit n 0 1 l)
 
 list-fits : (T : Tables) (l : List ℕ) → Every SmallValue (lentList T l)
 unfolding lentList
 list-fits T l = every-append (both-fit T) (faults-fit (partCount T) l)
 
-register-fits : (R : List ℕ) → Every SmallValue (lentRegister R)
+lent-register-fits : (R : List ℕ) → Every SmallValue (lentRegister R)
 unfolding lentRegister
-register-fits R = also some-limit (also some-limit none)
+lent-register-fits R = also some-limit (also some-limit none)
 
 register-passed : (R : List ℕ) → isRefused (decide (lentRegister R) 0) ≡ false → Ready R
 unfolding lentRegister
@@ -202,7 +202,7 @@ module _ (n R : List ℕ) where
 
   pub registering-small : valueOf (answer (registering n R)) < limit
   unfolding answer registering numberRefusals
-  registering-small = small-front (lentRegister R) _ _ (register-fits R) (λ e.
+  registering-small = small-front (lentRegister R) _ _ (lent-register-fits R) (λ e.
       let r = register-passed R e in
       small-step _ _ _ (λ _. some-limit) (λ _.
       small-step _ _ _ (λ _. place-small r) (λ _.
@@ -210,7 +210,7 @@ module _ (n R : List ℕ) where
 
   pub looking-small : valueOf (answer (lookingUp n R)) < limit
   unfolding answer lookingUp
-  looking-small = small-front (lentRegister R) _ _ (register-fits R) (λ e.
+  looking-small = small-front (lentRegister R) _ _ (lent-register-fits R) (λ e.
       let r = register-passed R e in
       small-step _ _ _ (λ _. some-limit) (λ _.
       small-step _ _ _ (λ _. some-limit) (λ _. end-small _ (place-small r))))
@@ -218,7 +218,7 @@ module _ (n R : List ℕ) where
 pub showing-small : (p : ℕ) (R : List ℕ) → valueOf (answer (showing p R)) < limit
 unfolding answer showing
 showing-small p R =
-    small-front (lentRegister R) _ _ (register-fits R)
+    small-front (lentRegister R) _ _ (lent-register-fits R)
     (λ e. small-step _ _ _ (λ _. some-limit) (λ _. end-small _ some-limit))
 
 -- Tables that are lent, of 16-bit words
