@@ -151,10 +151,16 @@ said-value : (j k : ℕ) → j ≡ k → lineValue j ≡ min k 4294967295
 unfolding lineValue
 said-value j k e = ap (λ x. min x 4294967295) e
 
+-- the lines before line k + 1
+line-before : (k : ℕ) (l : List ℕ) → firstLines (suc k - 1) l ≡ firstLines k l
+line-before k l = let e : suc k - 1 ≡ k = omega arith in rw e
+
 pub line-charged : LineCharged
-line-charged n (suc k) l (by-half h) = (4, check-odd n l (λ e. omega arith) ∙ ap (refused 4) (said-value (length l / 2 + 1) (suc k) (omega arith)))
+line-charged n k l (by-half h) = (4, check-odd n l (λ e. omega arith) ∙ ap (refused 4) (said-value (length l / 2 + 1) k (omega arith)))
+line-charged n zero l (by-line even good bad) = absurd (bad-lines n [] bad none)
 line-charged n (suc k) l (by-line even good bad) =
-    let r = charged-lines n 0 1 k l even (good-lines n (firstLines k l) good) (bad-lines n (firstLines (suc k) l) bad) in
+    let g = good-lines n (firstLines k l) (subst (λ b. goodList n b ≡ true) (line-before k l) good) in
+    let r = charged-lines n 0 1 k l even g (bad-lines n (firstLines (suc k) l) bad) in
     (r .number, check-even n l even ∙ r .says ∙ ap (refused (r .number)) (said-value (1 + k) (suc k) (omega arith)))
 
 pub some-line : SomeLine
@@ -162,8 +168,10 @@ some-line n l e =
     ⊎-elim
     (λ (even : length l % 2 ≡ 0).
     let r = bad-charged n 0 l even (bad-lines n l e) in
-    (suc (r .0), by-line even (lines-good-list n (firstLines (r .0) l) (r .1)) (lines-bad n (firstLines (suc (r .0)) l) (r .2))))
-    (λ (odd : 0 < length l % 2). (suc (length l / 2), by-half {k = length l / 2} (omega arith)))
+    let k = r .0 in
+    let g = subst (λ b. goodList n b ≡ true) (sym (line-before k l)) (lines-good-list n (firstLines k l) (r .1)) in
+    (suc k, by-line even g (lines-bad n (firstLines (suc k) l) (r .2))))
+    (λ (odd : 0 < length l % 2). (length l / 2 + 1, by-half (omega arith)))
     (zero-or (length l % 2))
 
 ------------------------------------------------------------------------

@@ -5,7 +5,7 @@ use mathlib.Core.Path.{_≡_}
 use mathlib.Core.Logic.{_↔_}
 use mathlib.Core.Bool.{Bool, true, false}
 use mathlib.Core.List.{List}
-use Prim.Native.Nat.{ℕ, suc, _+_, _*_, _%_, _≤_, min}
+use Prim.Native.Nat.{ℕ, _+_, _-_, _*_, _%_, _≤_, min}
 use lib.ListN.{length, take}
 use Rattle.ground.specs.Lists.{isZero}
 use Rattle.ground.specs.Calls.{Both, refused, decide, answer}
@@ -19,12 +19,11 @@ use Rattle.demands.specs.Demand1.{bothTables, LengthWrong, TableUnsound}
 abbrev pub firstLines : ℕ → List ℕ → List ℕ
 firstLines k l = take (k * 2) l
 
--- [4.4] the line, counted from 1, to which a list is charged beside n parts: of an odd list the one that lacks its quantity, behind k that have
--- theirs; of any other the first with which its lines are not good
-pub data ChargedTo (n : ℕ) (l : List ℕ) : ℕ → Type 0 where
-  by-half : {k : ℕ} → length l ≡ k * 2 + 1 → ChargedTo n l (suc k)
-  by-line : {k : ℕ} → length l % 2 ≡ 0 → goodList n (firstLines k l) ≡ true → goodList n (firstLines (suc k) l) ≡ false →
-      ChargedTo n l (suc k)
+-- [4.4] the line, counted from 1, to which a list is charged beside n parts: of an odd list the one that lacks its quantity; of any other the
+-- first with which its lines are not good
+pub data ChargedTo (n : ℕ) (l : List ℕ) (k : ℕ) : Type 0 where
+  by-half : length l + 1 ≡ k * 2 → ChargedTo n l k
+  by-line : length l % 2 ≡ 0 → goodList n (firstLines (k - 1) l) ≡ true → goodList n (firstLines k l) ≡ false → ChargedTo n l k
 
 -- [4.4] "The check on a list promises this". Proof: `line-charged`
 abbrev pub LineCharged : Type 0
