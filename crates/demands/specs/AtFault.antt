@@ -33,7 +33,7 @@ LineCharged = (n k : ℕ) (l : List ℕ) → ChargedTo n l k → (f : ℕ) × (d
 abbrev pub SomeLine : Type 0
 SomeLine = (n : ℕ) (l : List ℕ) → goodList n l ≡ false → (k : ℕ) × ChargedTo n l k
 
--- the calls that take a list, and whether a tag that they ask for first is 0
+-- [14.21] the calls that take a list, and whether a tag that they ask for first is 0
 pub data TakesList (l : List ℕ) : Call → Bool → Type 0 where
   to-insert : (t : ℕ) → TakesList l (insertKit l t) (isZero t)
   to-find : TakesList l (findKit l) false
@@ -44,7 +44,7 @@ pub data TakesList (l : List ℕ) : Call → Bool → Type 0 where
   containing-all : (o : List ℕ) → TakesList l (allContaining l o) false
   almost-all : (d : ℕ) (o : Both) → TakesList l (allAlmost d l o) false
 
--- [4.4, 14.21] "every call that takes a list hands it on": of any tables, 4, 5 or 6 with this value exactly where the tables are right and sound,
+-- [14.21] "every call that takes a list hands it on": of any tables, 4, 5 or 6 with this value exactly where the tables are right and sound,
 -- the tag is not 0 and the check of the list says so. Proof: `list-exactly`
 abbrev pub ListExactly : Type 0
 ListExactly =
