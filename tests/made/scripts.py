@@ -7,7 +7,7 @@ from second.register import LONGEST_NUMBER
 
 from .register_requests import ALIKE, EDGE_BYTES, many_numbers
 
-# Document 01's example, word for word.
+# Document 01's example, with the last K reply of request 2: "becomes `K 4 2`".
 EXAMPLE_INPUT = b"""\
 P 00741
 P 741
@@ -39,7 +39,7 @@ b 0 2 9 5
 S 0 7
 B 0 0
 D 0 7
-K 4 0
+K 4 2
 W 0 34 4B495400010003053030373431033734310434303136000200090101010005010201
 """
 
