@@ -6,6 +6,7 @@ program.
 """
 
 from collections import Counter
+from itertools import product
 
 from second.desk import (
     CALL_LETTERS, LIST_LETTERS, LONGEST_LINE, NODES, OTHER_LINE, SHEET_BYTES, SLOTS, SPACE)
@@ -144,8 +145,12 @@ class AllCallsReached(CallsReached):
 
 # Lists: what a list's check says, and how the rows of two lists stand to each other.
 
-FIXED_CHECKS = ["4 by an odd length", "above 64 units"]
-CHECKS = ["good", "4 by a place", "5", "6"]
+# A refusal with the line that it says.
+ON_LINE = "%d on line %d"
+GOOD = "good"
+FIXED_CHECKS = ["4 by an odd length", "above 64 units",
+                *(ON_LINE % fault for fault in product(sorted(LIST), range(1, 6)))]
+CHECKS = [GOOD, "4 by a place", "5", "6"]
 STANDINGS = ["before the other", "the same", "after the other", "begins the other",
              "within the other", "not within the other", "apart from the first place on",
              "apart behind a common beginning"]
