@@ -1,14 +1,13 @@
 -- Request 3: what an old sheet says it says by the new rule too, since every number that was good is good.
-use mathlib.Core.Path.{_≡_, refl, sym, _∙_}
+use mathlib.Core.Path.{_≡_, refl, sym}
 use mathlib.Core.Bool.{Bool, true, false, cond, _&&_, _||_, or-true, false≢true}
 use mathlib.Core.List.{List, [], _∷_}
 use Prim.Native.Nat.{ℕ, zero, suc, _+_}
 use lib.ListN.{length, take, drop}
 use lib.Dec.{leb}
-use Rattle.ground.specs.Lists.{allb, anyb, every, eqList}
-use Rattle.ground.proofs.Laws.{and-left, and-right, and-both, every-at}
-use Rattle.register.specs.Number.{longestNumber, between, isPunctuation, goodByte, goodNumber}
-use Rattle.sheet.specs.Sheet.{Contents}
+use Rattle.ground.specs.Lists.{allb, every}
+use Rattle.ground.proofs.Laws.{and-left, and-right, and-both}
+use Rattle.register.specs.Number.{between, isPunctuation, goodByte, goodNumber}
 use Rattle.sheet.specs.Reading.{Item, item, fault, Reading, onward, one, numberSize, newNumber, numbers, front, decode, isFault}
 use Rattle.demands.specs.Before.{goodByteBefore, goodNumberBefore, newNumberBefore, numbersBefore, frontBefore, decodeBefore, OldSheets}
 use Rattle.demands.specs.Before.{BeforeCases}
@@ -25,7 +24,7 @@ byte-wider b e = go (between 0x30 0x39 b) (between 0x41 0x5A b) (between 0x61 0x
     go : (digit capital small mark : Bool) → (digit || (capital || mark)) ≡ true → (digit || (capital || (small || mark))) ≡ true
     go true capital small mark h = refl
     go false true small mark h = refl
-    go false false small true h = or-true
+    go false false small true h = or-true small
     go false false small false h = absurd (false≢true h)
 
 all-wider : (p q : ℕ → Bool) → ((x : ℕ) → p x ≡ true → q x ≡ true) → (l : List ℕ) → allb p l ≡ true → allb q l ≡ true
@@ -33,16 +32,22 @@ unfolding allb
 all-wider p q w [] e = refl
 all-wider p q w (x ∷ l) e = and-both (q x) (allb q l) (w x (and-left (p x) (allb p l) e)) (all-wider p q w l (and-right (p x) (allb p l) e))
 
+first-wider : (a b : Bool) (l : List Bool) → (a ≡ true → b ≡ true) → every (a ∷ l) ≡ true → every (b ∷ l) ≡ true
+unfolding every
+first-wider a b l w e = and-both b (every l) (w (and-left a (every l) e)) (and-right a (every l) e)
+
+others-wider : (a : Bool) (l m : List Bool) → (every l ≡ true → every m ≡ true) → every (a ∷ l) ≡ true → every (a ∷ m) ≡ true
+unfolding every
+others-wider a l m w e = and-both a (every m) (and-left a (every l) e) (w (and-right a (every l) e))
+
 number-wider : (n : List ℕ) → goodNumberBefore n ≡ true → goodNumber n ≡ true
-unfolding goodNumberBefore goodNumber every
-number-wider n e =
-    let some : leb 1 (length n) ≡ true = every-at _ 0 e in
-    let few : leb (length n) longestNumber ≡ true = every-at _ 1 e in
-    rw (some, few, all-wider goodByteBefore goodByte byte-wider n (every-at _ 2 e))
+unfolding goodNumberBefore goodNumber
+number-wider n =
+    others-wider _ _ _ (others-wider _ _ _ (first-wider (allb goodByteBefore n) (allb goodByte n) [] (all-wider goodByteBefore goodByte byte-wider n)))
 
 new-wider : (seen : List (List ℕ)) (b : List ℕ) → newNumberBefore seen b ≡ true → newNumber seen b ≡ true
-unfolding newNumberBefore newNumber every
-new-wider seen b e = rw (number-wider (drop 1 b) (every-at _ 0 e)) (and-both true _ refl (and-right (goodNumberBefore (drop 1 b)) _ e))
+unfolding newNumberBefore newNumber
+new-wider seen b = first-wider (goodNumberBefore (drop 1 b)) (goodNumber (drop 1 b)) _ (number-wider (drop 1 b))
 
 ------------------------------------------------------------------------
 -- What is read by a rule without a fault is read so by a wider one
