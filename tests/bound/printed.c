@@ -1,5 +1,6 @@
-// Document 01's example, played through the face as C calls it, line by line; then the calls that the desk has no letter for.
-// Every answer must be the printed one, and the sheet its 34 bytes. Status 1, and a line for each difference.
+// Document 01's example with request 2's last K reply, played through the face as C calls it, line by line; then the calls that
+// the desk has no letter for. Every answer must be the printed one, and the sheet its 34 bytes. Status 1, and a line for each
+// difference.
 #include "padrisk.h"
 #include <stdbool.h>
 #include <stdio.h>
@@ -82,7 +83,7 @@ static void printed_lines(void) {
     answered(padrisk_find(reg, REG, nodes, NODES, two_and_one, 4, &value), 0, 7, "F");
     answered(padrisk_delete(reg, REG, nodes, NODES, two_and_one, 4, &value), 0, 7, "D");
     answered(padrisk_find(reg, REG, nodes, NODES, two_and_one, 4, &value), 11, 0, "F behind D");
-    inserts(8, falls, 4, 4, 0);
+    inserts(8, falls, 4, 4, 2);
 }
 
 static void shows(void) {

@@ -10,6 +10,7 @@ from second import calls
 from second.kits import MOST_QUANTITY, MOST_UNITS, lines_of, lines_of_words, units, words_of
 from second.lent import Request
 from second.nodes import MOST_NODES
+from second.refusals import NO_ROOM
 from second.register import MOST_SLOTS
 
 from .index_requests import BEFORE, LONGEST_LIST, SECOND_BEFORE, pairs_of_tables, some_list
@@ -190,8 +191,9 @@ def some_d(chance):
 
 
 def places_needed(d, register, words, listed):
-    """The places that the answer needs; a call without outputs tells them, or is refused."""
-    return calls.answer(Request("a", d, R=register, N=words, L=listed)).value
+    """The places that the answer needs: a call without outputs tells them by 12, or needs none."""
+    came = calls.answer(Request("a", d, R=register, N=words, L=listed))
+    return came.value if came.number == NO_ROOM else 0
 
 
 def some_rooms(chance, needed):

@@ -1,6 +1,6 @@
 """Requests that try the index: insertion, finding, deletion, the questions, and soundness."""
 
-from itertools import cycle, product
+from itertools import chain, cycle, product
 
 from run.frame import ROOM
 from second import index, nodes
@@ -28,6 +28,10 @@ SECOND_BEFORE = [62000 + at for at in range(1, 13)]
 # The longest unit row with few parts: 15 of each of four parts and 4 of a fifth.
 LONGEST_LIST = [1, 15, 2, 15, 3, 15, 4, 15, 5, 4]
 TOO_LONG_LIST = [1, 15, 2, 15, 3, 15, 4, 15, 5, 5]
+
+# How many lines long lists have ("Volunteers type .. forty"), and how many numbers odd ones.
+LINE_COUNTS = [1, 2, 40, 127, 4000]
+ODD_LENGTHS = [1, 3, 8191]
 
 
 def some_outputs(letter, count=6):
@@ -322,7 +326,8 @@ def moved_nodes(letters):
 
 
 def large():
-    """Tables of 4,096 nodes and one more, chains of 255 siblings, 255 lines, long outputs."""
+    """Tables of 4,096 nodes and one more, chains of 255 siblings, long lists, long outputs."""
+    yield from long_lists()
     full = parts_register(MOST_SLOTS, MOST_SLOTS)
     for length in (MOST_NODES * NODE_WORDS, MOST_NODES * NODE_WORDS + 1,
                    (MOST_NODES + 1) * NODE_WORDS, (MOST_NODES - 1) * NODE_WORDS, ROOM["N"]):
@@ -357,6 +362,53 @@ def large():
         for letter, listed in (("W", everything), ("C", [])):
             yield Request(letter, R=full, N=every, L=listed, P=[7] * room,
                           note="4096 kits into %d places" % room)
+
+
+def long_lists():
+    """Short and long lists at fault on their first line or their last, and odd ones.
+
+    Places strictly rise and there are at most 255 parts: of 4,000 lines, line 256 is at fault by 5
+    at the latest, so that what is wrong with the last is never said. They are sent all the same.
+    """
+    full, words = parts_register(MOST_SLOTS, MOST_SLOTS), table(3, ((1,), 4), ((2,), 9))
+    for listed in chain(*map(lists_at_fault, LINE_COUNTS), *map(odd_lists, ODD_LENGTHS)):
+        for letter in LIST_LETTERS:
+            yield Request(letter, tag_or_most(letter, 40000), R=full, N=words, L=listed,
+                          **some_outputs(letter), note="%d words at fault" % len(listed))
+
+
+def good_lines(count):
+    """So many lines with one of each part from the first on."""
+    return [(place, 1) for place in range(1, count + 1)]
+
+
+def lists_at_fault(count):
+    """Lists of so many lines of which the first is at fault, the last, and both, each with each."""
+    good, firsts, lasts = good_lines(count), faulty_lines(1), faulty_lines(count)
+    for line in firsts:
+        yield words_of([line] + good[1:])
+    if count > 1:
+        for line in lasts:
+            yield words_of(good[:-1] + [line])
+        for first, last in product(firsts, lasts):
+            yield words_of([first] + good[1:-1] + [last])
+
+
+def faulty_lines(place):
+    """The line of this place at fault by 6, by 4 or 5, and by two at once.
+
+    Instead of its place it has 0, the one before or one beyond the parts.
+    """
+    wrong = sorted({0, place - 1, MOST_SLOTS + 1})
+    return [(place, 0), (place, MOST_QUANTITY + 1),
+            *product(wrong, (1, MOST_QUANTITY + 1))]
+
+
+def odd_lists(length):
+    """Lists of so many numbers whose last line lacks its quantity; the first is good, or not."""
+    words = words_of(good_lines(length // 2 + 1))[:length]
+    yield words
+    yield [0] + words[1:]
 
 
 def some_list(chance, kits, parts):

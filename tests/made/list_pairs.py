@@ -16,7 +16,7 @@ from second.nodes import NODE_WORDS
 from second.refusals import BAD_ORDER
 from second.register import MOST_SLOTS
 
-from .reached import BY_CHANCE, PAIR
+from .reached import BY_CHANCE, GOOD, ON_LINE, PAIR
 from .register_requests import many_numbers
 from .sheet_requests import record, sheet_of
 from .tables import parts_register, table
@@ -96,7 +96,10 @@ def short_rows():
 
 
 def first_faults():
-    """Each of five lines at fault in one way, and all behind it in another: the number tells."""
+    """Each of five lines at fault in one way, and all behind it in another.
+
+    Both the number and the line tell which was found first.
+    """
     for good in range(5):
         for fault, behind in permutations(FAULTY_LINES, 2):
             yield 5, full(good, 1) + list(fault) + list(behind) * (4 - good), full(good, 1)
@@ -199,14 +202,14 @@ def sheets(parts, *both):
 
 
 def check_of(listed, parts):
-    """What a list's check says, by name."""
+    """What a list's check says, by names."""
     fault = first_fault(listed, parts)
     if fault is None:
-        return "good" if sum(listed[1::2]) <= MOST_UNITS else "above 64 units"
+        return [GOOD if sum(listed[1::2]) <= MOST_UNITS else "above 64 units"]
+    if len(listed) % 2:
+        return ["4 by an odd length"]
     number, _ = fault
-    if number == BAD_ORDER:
-        return "4 by an odd length" if len(listed) % 2 else "4 by a place"
-    return str(number)
+    return ["4 by a place" if number == BAD_ORDER else str(number), ON_LINE % fault]
 
 
 def standing_of(row, other):
@@ -228,7 +231,7 @@ def standing_of(row, other):
 def note_pair(reached, who, parts, *both):
     """Counts what a pair of lists comes to, either way round."""
     checked = [check_of(listed, parts) for listed in both]
-    reached.note(who, *checked)
-    if checked == ["good", "good"]:
+    reached.note(who, *chain(*checked))
+    if checked == [[GOOD], [GOOD]]:
         rows = [units(lines_of_words(listed)) for listed in both]
         reached.note(who, *standing_of(*rows), *standing_of(*rows[::-1]))

@@ -6,6 +6,7 @@ program.
 """
 
 from collections import Counter
+from itertools import product
 
 from second.desk import (
     CALL_LETTERS, LIST_LETTERS, LONGEST_LINE, NODES, OTHER_LINE, SHEET_BYTES, SLOTS, SPACE)
@@ -144,8 +145,12 @@ class AllCallsReached(CallsReached):
 
 # Lists: what a list's check says, and how the rows of two lists stand to each other.
 
-FIXED_CHECKS = ["4 by an odd length", "above 64 units"]
-CHECKS = ["good", "4 by a place", "5", "6"]
+# A refusal with the line that it says.
+ON_LINE = "%d on line %d"
+GOOD = "good"
+FIXED_CHECKS = ["4 by an odd length", "above 64 units",
+                *(ON_LINE % fault for fault in product(sorted(LIST), range(1, 6)))]
+CHECKS = [GOOD, "4 by a place", "5", "6"]
 STANDINGS = ["before the other", "the same", "after the other", "begins the other",
              "within the other", "not within the other", "apart from the first place on",
              "apart behind a common beginning"]
@@ -208,13 +213,16 @@ OTHERS = "?"
 EMPTY, OVERLONG, EMPTY_FIELD, OTHER = (
     "an empty line", "an overlong line", "an empty field", "another line that is none")
 LONGEST = "a line of 512 bytes"
-# Replies that are given only at a limit of the desk's tables and outputs.
+# Faults with their lines. A first line is never out of order: the place looked up is not 0.
+SAID_LINES = [(BAD_ORDER, 2), (BAD_ORDER, 40), (BAD_QUANTITY, 1), (BAD_QUANTITY, 40)]
+# Replies that are given only at a limit of the desk's tables and outputs, or that say such a line.
 LIMIT_REPLIES = {
     ("P", DONE, SLOTS): "the last slot",
     ("W", DONE, SHEET_BYTES): "a sheet of 8,192 bytes",
     ("W", NO_ROOM, SHEET_BYTES + 1): "a sheet one byte too long",
     ("s", DONE, NODES): "as many kits as nodes",
     ("K", NO_ROOM, 1): "one node too few",
+    **{(letter, *fault): ON_LINE % fault for letter in "K" + LIST_LETTERS for fault in SAID_LINES},
 }
 IN_PIECES, TALKED, NO_LINE_FEED = "lines in pieces", "a conversation", "no last line feed"
 INPUT = "input"

@@ -7,7 +7,7 @@ from second.register import LONGEST_NUMBER
 
 from .register_requests import ALIKE, EDGE_BYTES, many_numbers
 
-# Document 01's example, word for word.
+# Document 01's example, with the last K reply of request 2: "becomes `K 4 2`".
 EXAMPLE_INPUT = b"""\
 P 00741
 P 741
@@ -39,12 +39,22 @@ b 0 2 9 5
 S 0 7
 B 0 0
 D 0 7
-K 4 0
+K 4 2
 W 0 34 4B495400010003053030373431033734310434303136000200090101010005010201
 """
 
 LETTERS = "".join(CALL_LETTERS)
 MILLION = 1_000_000
+
+# "Volunteers type lists of forty lines": their places, and those of a number that is not
+# registered and of one against the rule.
+FORTY = range(1, 41)
+UNKNOWN, BAD = 41, 42
+# A lookup's refusal, whose value stays 0, before and behind a line at fault.
+LOOKED_UP_IN_FORTY = [
+    {1: (1, 0), 40: (UNKNOWN, 1)}, {1: (UNKNOWN, 1), 40: (40, 16)}, {39: (UNKNOWN, 0)},
+    {2: (1, 1), 40: (BAD, 1)}, {2: (BAD, 1), 40: (39, 1)}, {39: (BAD, 16)},
+]
 
 # Fields that are or are not a tag or a quantity.
 WORDS = [b"0", b"1", b"9", b"10", b"15", b"16", b"255", b"256", b"9999", b"10000", b"65534",
@@ -63,9 +73,14 @@ def registering(numbers):
     return [b"P " + number for number in numbers]
 
 
+def paired(lines, numbers):
+    """Lines (place, quantity) as number and quantity pairs."""
+    return b"".join(b" %s %d" % (numbers[place - 1], quantity) for place, quantity in lines)
+
+
 def listed(row, numbers):
     """A unit row as number and quantity pairs."""
-    return b"".join(b" %s %d" % (numbers[place - 1], quantity) for place, quantity in lines_of(row))
+    return paired(lines_of(row), numbers)
 
 
 def fixed():
@@ -83,6 +98,7 @@ def fixed():
     yield "numbers of fields", text(*field_counts())
     yield "tags and quantities", text(*tags_and_quantities())
     yield "lookups before all else", text(*lookups())
+    yield "forty lines", text(*forty_lines())
     yield "units and refusals in order", text(*units_and_order())
     yield "questions", text(*questions())
     yield "part numbers", text(*part_numbers())
@@ -196,6 +212,40 @@ def lookups():
                       b" " + b"A" * 25 + b" 1", b" C x", b" A 1 C", b""):
             yield head + pairs
     yield b"W"
+
+
+def forty_lines():
+    """A list of forty lines, which is entered, and others with one or two of them at fault."""
+    numbers = many_numbers(len(FORTY))
+    yield from registering(numbers)
+    numbers += [b"NEW", b"new"]
+    good = forty({})
+    at_fault = [forty(changed) for changed in (*faults_in_forty(), *LOOKED_UP_IN_FORTY)]
+    for lines in (good, *at_fault):
+        for head in (b"K 41", b"F", b"B", b"S", b"b", b"s"):
+            yield head + paired(lines, numbers)
+    for lines in (*at_fault, good):
+        yield b"D" + paired(lines, numbers)
+    yield b"W"
+
+
+def forty(changed):
+    """One of each of forty parts; lines that are changed, by their number, stand instead."""
+    return [changed.get(place, (place, 1)) for place in FORTY]
+
+
+def faults_in_forty():
+    """Changes: quantities 0 and 16, a part twice, two parts in falling order; then two faults."""
+    for line in (1, 2, 20, 39, 40):
+        yield {line: (line, 0)}
+        yield {line: (line, 16)}
+        if line > 1:
+            yield {line: (line - 1, 1)}
+            yield {line - 1: (line, 1), line: (line - 1, 1)}
+    yield {1: (1, 0), 2: (1, 1)}
+    yield {2: (1, 1), 40: (40, 0)}
+    yield {20: (20, 16), 40: (39, 1)}
+    yield {40: (39, 16)}
 
 
 def units_and_order():

@@ -5,7 +5,7 @@ Each takes a request and its right answer, and gives the ways by name with wheth
 
 from second import index, register
 from second.calls import MOST_SHORT
-from second.kits import MOST_QUANTITY, MOST_UNITS
+from second.kits import LEAST_QUANTITY, MOST_QUANTITY, MOST_UNITS, first_fault
 from second.nodes import MOST_NODES, NODE_WORDS
 from second.refusals import (
     BAD_NUMBER, BAD_ORDER, BAD_QUANTITY, BEYOND_PARTS, NO_ROOM, NOT_HELD, NOT_SOUND,
@@ -84,6 +84,31 @@ def list_given(asked, came):
         "a quantity 15": good and MOST_QUANTITY in given,
         "a quantity 16": bad and MOST_QUANTITY + 1 in given,
         "an odd length": came.number == BAD_ORDER and len(words) % 2 == 1,
+    }
+
+
+def line_at_fault(asked, came):
+    """The line that is said to be at fault, in long lists too; odd lists; two faults at once.
+
+    Two lines are at fault where those behind the one that is said are a list at fault themselves.
+    """
+    words, line, at_fault = asked.blocks["L"], came.value, came.number in LIST
+    odd, even = at_fault and len(words) % 2 == 1, at_fault and len(words) % 2 == 0
+    parts = len(register.numbers_of(asked.blocks["R"])) if at_fault else 0
+    return {
+        "line 1 at fault": even and line == 1,
+        "line 2 at fault": even and line == 2,
+        "line 40 at fault": even and line == 40,
+        "line 127 at fault": even and line == 127,
+        "line 256 of 4,000 at fault": even and line == 256 and len(words) == 2 * 4000,
+        "two lines at fault, and the first is said": even and first_fault(
+            words[2 * line:], parts),
+        "two faults on one line": even and came.number != BAD_QUANTITY and not (
+            LEAST_QUANTITY <= words[2 * line - 1] <= MOST_QUANTITY),
+        "an odd list of 1 number": odd and len(words) == 1,
+        "an odd list of 3 numbers": odd and len(words) == 3,
+        "an odd list of 8,191 numbers": odd and len(words) == 8191,
+        "an odd list with a line at fault before": odd and first_fault(words[:-1], parts),
     }
 
 
@@ -176,7 +201,7 @@ def sheet_read(asked, came):
     }
 
 
-# The limits of documents 01 and 02, as ways of each call; and those that take large requests too.
+# The limits of documents 01 and 02, as ways of each call.
 LIMITS = {
     "e": [emptied], "p": [number_given, registered], "l": [number_given], "n": [place_given],
     "k": [tables_lent, list_given, entered], "f": [tables_lent, list_given],
@@ -185,12 +210,16 @@ LIMITS = {
     "C": [tables_lent, list_given, output_into("P")], "a": [tables_lent, list_given, almost_filled],
     "s": [tables_lent, output_into("O")], "r": [sheet_read],
 }
-ALL_WAYS = {letter: ways + [largest_lent] if tables_lent in ways else ways
+# Those that take large requests too, each of the calls that have the way beside it.
+LARGE = {tables_lent: largest_lent, list_given: line_at_fault}
+ALL_WAYS = {letter: ways + [LARGE[way] for way in ways if way in LARGE]
             for letter, ways in LIMITS.items()}
 # Of these the stored run has all: with more of them it would be another one.
 STORED_WAYS = {"e": [emptied], "a": [almost_filled]}
 # Ways that requests by chance hardly ever go.
 LEFT_TO_LIMITS = {
     "a kit of 64 units", "a kit of 65 units", "a shortfall of 64", "bytes behind the end",
-    "d 64 done", "d 65,535 refused",
+    "d 64 done", "d 65,535 refused", "line 40 at fault", "line 127 at fault",
+    "line 256 of 4,000 at fault", "two lines at fault, and the first is said",
+    "an odd list of 8,191 numbers", "an odd list with a line at fault before",
 }

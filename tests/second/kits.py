@@ -9,13 +9,15 @@ LEAST_QUANTITY = 1
 MOST_QUANTITY = 15
 # "A kit is at most 64 units"
 MOST_UNITS = 64
+# "with 4,294,967,295 standing for any later line too"
+MOST_LINE = 4_294_967_295
 
 
 def first_fault(words, parts):
     """The number of a list's first fault and its line; None where the list is good.
 
-    "then 4 for odd length; then line by line 4, 5, 6". An odd list is charged to the line that
-    lacks its quantity. No call shows the line today.
+    "then 4 for odd length; then line by line 4, 5, 6"; "an odd list is charged to the line that
+    lacks its quantity".
     """
     if len(words) % 2 != 0:
         return BAD_ORDER, len(words) // 2 + 1
@@ -32,11 +34,17 @@ def first_fault(words, parts):
     return None
 
 
+def value_of_line(line):
+    """The value that says a line at fault: "the line, counted from 1", or what stands for it."""
+    return min(line, MOST_LINE)
+
+
 def checked_lines(words, parts):
     """The list's lines as (place, quantity), or the refusal that the list gets."""
     fault = first_fault(words, parts)
     if fault:
-        raise Refusal(fault[0])
+        number, line = fault
+        raise Refusal(number, value_of_line(line))
     return lines_of_words(words)
 
 

@@ -27,54 +27,55 @@ use Rattle.demands.specs.Demand1.{TablesAsked, theRegister, theLengths, 
 ------------------------------------------------------------------------
 -- What is asked of the tables comes first, and every refusal behind it has a number above 2
 
-abbrev Above : Case → Type 0
-Above c = ltb 2 (c .number) ≡ true
+-- its number is above m
+abbrev pub Above : ℕ → Case → Type 0
+Above m c = ltb m (c .number) ≡ true
 
-behind : (ds : List Case) (v k : ℕ) → Every Above ds → numberOf (decide ds v) ≡ suc k → 2 < suc k
+pub behind-above : (m : ℕ) (ds : List Case) (v k : ℕ) → Every (Above m) ds → numberOf (decide ds v) ≡ suc k → m < suc k
 unfolding decide
-behind [] v k none e = absurd (let z : _≡_ {A = ℕ} 0 (suc k) = e in omega arith)
-behind (d ∷ ds) v k (also a q) e =
-    by-cond (λ (r : Reply). numberOf r ≡ suc k → 2 < suc k) (d .test) (refused (d .number) (d .value)) (decide ds v)
-    (λ _ f. let z : d .number ≡ suc k = f in omega (arith, ltb-true 2 (d .number) a)) (λ _ f. behind ds v k q f) e
+behind-above m [] v k none e = absurd (let z : _≡_ {A = ℕ} 0 (suc k) = e in omega arith)
+behind-above m (d ∷ ds) v k (also a q) e =
+    by-cond (λ (r : Reply). numberOf r ≡ suc k → m < suc k) (d .test) (refused (d .number) (d .value)) (decide ds v)
+    (λ _ f. let z : d .number ≡ suc k = f in omega (arith, ltb-true m (d .number) a)) (λ _ f. behind-above m ds v k q f) e
 
 -- the refusals of a call: two lengths and two tables, right or not, and then the others
-front : Bool → Bool → Bool → Bool → List Case → List Case
-front r n s m ds = given (not r) 1 0 ∷ given (not n) 1 0 ∷ given (not s) 2 0 ∷ given (not m) 2 0 ∷ ds
+unfoldable pub tablesThen : Bool → Bool → Bool → Bool → List Case → List Case
+tablesThen r n s m ds = given (not r) 1 0 ∷ given (not n) 1 0 ∷ given (not s) 2 0 ∷ given (not m) 2 0 ∷ ds
 
-wrong : {A : Type 0} → true ≡ false → A
+pub wrong : {A : Type 0} → true ≡ false → A
 wrong e = absurd (false≢true (sym e))
 
 not-two : _≡_ {A = ℕ} 2 1 → ⊥
 not-two e = omega arith
 
-one-front : (r n s m : Bool) (ds : List Case) (v : ℕ) → Every Above ds →
-    (numberOf (decide (front r n s m ds) v) ≡ 1) ↔ ((r ≡ false) ⊎ (n ≡ false))
-unfolding decide front
+one-front : (r n s m : Bool) (ds : List Case) (v : ℕ) → Every (Above 2) ds →
+    (numberOf (decide (tablesThen r n s m ds) v) ≡ 1) ↔ ((r ≡ false) ⊎ (n ≡ false))
+unfolding decide tablesThen
 one-front false n s m ds v q = (λ _. inl refl, λ _. refl)
 one-front true false s m ds v q = (λ _. inr refl, λ _. refl)
 one-front true true false m ds v q = (λ e. absurd (not-two e), λ h. ⊎-elim wrong wrong h)
 one-front true true true false ds v q = (λ e. absurd (not-two e), λ h. ⊎-elim wrong wrong h)
-one-front true true true true ds v q = (λ e. absurd (let z = behind ds v 0 q e in omega arith), λ h. ⊎-elim wrong wrong h)
+one-front true true true true ds v q = (λ e. absurd (let z = behind-above 2 ds v 0 q e in omega arith), λ h. ⊎-elim wrong wrong h)
 
-two-front : (r n s m : Bool) (ds : List Case) (v : ℕ) → Every Above ds →
-    (numberOf (decide (front r n s m ds) v) ≡ 2) ↔ (((r ≡ false) ⊎ (n ≡ false) → ⊥) × ((s ≡ false) ⊎ (m ≡ false)))
-unfolding decide front
+two-front : (r n s m : Bool) (ds : List Case) (v : ℕ) → Every (Above 2) ds →
+    (numberOf (decide (tablesThen r n s m ds) v) ≡ 2) ↔ (((r ≡ false) ⊎ (n ≡ false) → ⊥) × ((s ≡ false) ⊎ (m ≡ false)))
+unfolding decide tablesThen
 two-front false n s m ds v q = (λ e. absurd (not-two (sym e)), λ h. absurd (h .0 (inl refl)))
 two-front true false s m ds v q = (λ e. absurd (not-two (sym e)), λ h. absurd (h .0 (inr refl)))
 two-front true true false m ds v q = (λ _. (λ h. ⊎-elim wrong wrong h, inl refl), λ _. refl)
 two-front true true true false ds v q = (λ _. (λ h. ⊎-elim wrong wrong h, inr refl), λ _. refl)
-two-front true true true true ds v q = (λ e. absurd (let z = behind ds v 1 q e in omega arith), λ h. ⊎-elim wrong wrong (h .1))
+two-front true true true true ds v q = (λ e. absurd (let z = behind-above 2 ds v 1 q e in omega arith), λ h. ⊎-elim wrong wrong (h .1))
 
 ------------------------------------------------------------------------
 -- The refusals behind, call by call
 
-lines-above : (n prev k : ℕ) (l : List ℕ) → Every Above (linesFaults n prev k l)
+lines-above : (n prev k : ℕ) (l : List ℕ) → Every (Above 2) (linesFaults n prev k l)
 unfolding lineFaults linesFaults
 lines-above n prev k [] = none
 lines-above n prev k (p ∷ []) = none
 lines-above n prev k (p ∷ q ∷ l) = also refl (also refl (also refl (lines-above n p (suc k) l)))
 
-list-above : (n : ℕ) (l : List ℕ) → Every Above (listFaults n l)
+list-above : (n : ℕ) (l : List ℕ) → Every (Above 2) (listFaults n l)
 unfolding listFaults
 list-above n l = also refl (lines-above n 0 1 l)
 
@@ -100,8 +101,8 @@ what-is-asked theLengths T = lengths T
 what-is-asked bothTables T = lentBoth T
 
 asked-front : (a : TablesAsked) (T : Tables) (ds : List Case) (v : ℕ) →
-    decide (what-is-asked a T ++ ds) v ≡ decide (front (registerLength (T .register)) (nodes-fit a T) (register-is a T) (nodes-are a T) ds) v
-unfolding decide what-is-asked front nodes-fit register-is nodes-are lentRegister lengths lentBoth
+    decide (what-is-asked a T ++ ds) v ≡ decide (tablesThen (registerLength (T .register)) (nodes-fit a T) (register-is a T) (nodes-are a T) ds) v
+unfolding decide what-is-asked tablesThen nodes-fit register-is nodes-are lentRegister lengths lentBoth
 asked-front theRegister T ds v = refl
 asked-front theLengths T ds v = refl
 asked-front bothTables T ds v = refl
@@ -109,7 +110,7 @@ asked-front bothTables T ds v = refl
 record Fronted (c : Call) (T : Tables) : Type 0 where
   rest : List Case
   cases : planOf c T .cases ≡ what-is-asked (asksOf c) T ++ rest
-  above : Every Above rest
+  above : Every (Above 2) rest
 
 fronted : (c : Call) (T : Tables) → Fronted c T
 unfolding planOf what-is-asked asksOf lentRegister lengths lentBoth lentList emptying registering numberRefusals lookingUp showing inserting
@@ -157,7 +158,7 @@ module _ (c : Call) (T : Tables) where
   number-is :
       numberOf (answer (planOf c T)) ≡ numberOf
       (decide
-      (front (registerLength (T .register)) (nodes-fit (asksOf c) T) (register-is (asksOf c) T) (nodes-are (asksOf c) T) (fronted c T .rest))
+      (tablesThen (registerLength (T .register)) (nodes-fit (asksOf c) T) (register-is (asksOf c) T) (nodes-are (asksOf c) T) (fronted c T .rest))
       (planOf c T .value))
   unfolding answer
   number-is =

@@ -10,6 +10,7 @@ pub mod Counts
 pub mod Sheets
 pub mod Told
 pub mod Damaged
+pub mod AtFault
 pub mod Shown
 pub mod Offsets
 pub mod Values

@@ -1,7 +1,7 @@
 -- The limits, computed.
 use mathlib.Core.Path.{refl}
-use Rattle.demands.specs.Limits.{registeredAlone, mayStand, fiveParts, pathFrom, pathAnswer, listNumber, twoKits, wordsAfter, readIn, NumberLimits, LengthLimits}
-use Rattle.demands.specs.Limits.{PathLimits, ListLimits, RoomLimits, OrderOfRefusals, NodeWords, SheetLimits, Limits}
+use Rattle.demands.specs.Limits.{registeredAlone, mayStand, fiveParts, pathFrom, pathAnswer, listAnswer, risingLines, checkAnswer, twoKits, wordsAfter, readIn, NumberLimits, LengthLimits}
+use Rattle.demands.specs.Limits.{PathLimits, ListLimits, LineLimits, RoomLimits, OrderOfRefusals, NodeWords, SheetLimits, Limits}
 use Rattle.demands.proofs.Opened.{opened}
 
 number-limits : NumberLimits
@@ -17,8 +17,12 @@ unfolding opened fiveParts pathFrom pathAnswer
 path-limits = (refl, refl, refl, refl)
 
 list-limits : ListLimits
-unfolding opened fiveParts listNumber
+unfolding opened fiveParts listAnswer
 list-limits = (refl, refl, refl, refl)
+
+line-limits : LineLimits
+unfolding opened risingLines checkAnswer
+line-limits = (refl, refl, refl, refl, refl, refl, refl, refl)
 
 room-limits : RoomLimits
 unfolding opened fiveParts twoKits
@@ -38,4 +42,4 @@ unfolding opened readIn
 sheet-limits = (refl, refl, refl, refl, refl, refl, refl, refl, refl, refl, refl, refl)
 
 pub limits : Limits
-limits = (number-limits, length-limits, path-limits, list-limits, room-limits, order-of-refusals, node-words, sheet-limits)
+limits = (number-limits, length-limits, path-limits, list-limits, line-limits, room-limits, order-of-refusals, node-words, sheet-limits)

@@ -3,7 +3,7 @@ use mathlib.Core.Path.{_≡_, refl, ap, _∙_}
 use mathlib.Core.Logic.{⊎-elim}
 use mathlib.Core.Bool.{true, false}
 use mathlib.Core.List.{List, [], _∷_, _++_, map, append-assoc, append-nil, List·Memᴰ, List·Memᴰ·head, List·Memᴰ·tail}
-use Prim.Native.Nat.{ℕ, suc, _+_, _*_, _≤_, _<_}
+use Prim.Native.Nat.{ℕ, suc, _+_, _*_, _/_, _≤_, _<_}
 use native.Mathlib.Nat.{suc-mul}
 use native.Mathlib.Omega.{arith}
 use lib.ListN.{length, getD, length-append, length-map}
@@ -52,29 +52,34 @@ use Rattle.catalogue.specs.Calls.{Question}
 use Rattle.demands.specs.Pins.{ValuesFit}
 use Rattle.demands.proofs.Offsets.{fault-near}
 
--- The first refusals have the value 0, so that what stands behind them matters only where they pass
-abbrev Plain : Case → Type 0
-Plain c = c .value ≡ 0
+abbrev limit : ℕ
+limit = 4294967296
 
-module _ (B : ℕ) (some-limit : 0 < B) where
-  small-step : (c : Case) (cs : List Case) (v : ℕ) → (c .test ≡ true → c .value < B) → (c .test ≡ false → valueOf (decide cs v) < B) →
-      valueOf (decide (c ∷ cs) v) < B
-  unfolding decide
-  small-step c cs v f g = by-cond (λ (r : Reply). valueOf r < B) (c .test) (refused (c .number) (c .value)) (decide cs v) f g
+some-limit : 0 < limit
+some-limit = omega arith
 
-  next-passes : (c : Case) (cs : List Case) → c .test ≡ false → isRefused (decide cs 0) ≡ false → isRefused (decide (c ∷ cs) 0) ≡ false
-  unfolding decide
-  next-passes c cs t e = rw t e
+-- The first refusals have values that fit, so that what stands behind them matters only where they pass
+abbrev SmallValue : Case → Type 0
+SmallValue c = c .value < limit
 
-  none-passes : isRefused (decide [] 0) ≡ false
-  unfolding decide
-  none-passes = refl
+small-step : (c : Case) (cs : List Case) (v : ℕ) → (c .test ≡ true → c .value < limit) → (c .test ≡ false → valueOf (decide cs v) < limit) →
+    valueOf (decide (c ∷ cs) v) < limit
+unfolding decide
+small-step c cs v f g = by-cond (λ (r : Reply). valueOf r < limit) (c .test) (refused (c .number) (c .value)) (decide cs v) f g
 
-  small-front : (cs ds : List Case) (v : ℕ) → Every Plain cs → (isRefused (decide cs 0) ≡ false → valueOf (decide ds v) < B) →
-      valueOf (decide (cs ++ ds) v) < B
-  small-front [] ds v none g = g none-passes
-  small-front (c ∷ cs) ds v (also p ps) g =
-      small-step c (cs ++ ds) v (λ t. omega arith) (λ t. small-front cs ds v ps (λ e. g (next-passes c cs t e)))
+next-passes : (c : Case) (cs : List Case) → c .test ≡ false → isRefused (decide cs 0) ≡ false → isRefused (decide (c ∷ cs) 0) ≡ false
+unfolding decide
+next-passes c cs t e = rw t e
+
+none-passes : isRefused (decide [] 0) ≡ false
+unfolding decide
+none-passes = refl
+
+small-front : (cs ds : List Case) (v : ℕ) → Every SmallValue cs → (isRefused (decide cs 0) ≡ false → valueOf (decide ds v) < limit) →
+    valueOf (decide (cs ++ ds) v) < limit
+small-front [] ds v none g = g none-passes
+small-front (c ∷ cs) ds v (also p ps) g =
+    small-step c (cs ++ ds) v (λ t. p) (λ t. small-front cs ds v ps (λ e. g (next-passes c cs t e)))
 
 -- Tags
 tag-small : (B : ℕ) (r : List ℕ) (ks : List Kit) → 0 < B → ((k : Kit) → List·Memᴰ k ks → k .tag < B) → tagIn r ks < B
@@ -138,31 +143,35 @@ place-known k n (p ∷ ps) h =
     (λ _. omega (arith, place-known (suc k) n ps (omega arith)))
 
 -- The refusals of what is lent
-lengths-plain : (T : Tables) → Every Plain (lengths T)
+lengths-fit : (T : Tables) → Every SmallValue (lengths T)
 unfolding lengths
-lengths-plain T = also refl (also refl none)
+lengths-fit T = also some-limit (also some-limit none)
 
-both-plain : (T : Tables) → Every Plain (lentBoth T)
+both-fit : (T : Tables) → Every SmallValue (lentBoth T)
 unfolding lentBoth
-both-plain T = every-append (lengths-plain T) (also refl (also refl none))
+both-fit T = every-append (lengths-fit T) (also some-limit (also some-limit none))
 
-lines-plain : (n prev k : ℕ) (l : List ℕ) → Every Plain (linesFaults n prev k l)
-unfolding lineFaults linesFaults lineValue
-lines-plain n prev k [] = none
-lines-plain n prev k (p ∷ []) = none
-lines-plain n prev k (p ∷ q ∷ l) = also refl (also refl (also refl (lines-plain n p (suc k) l)))
+line-value-fits : (k : ℕ) → lineValue k < limit
+unfolding lineValue
+line-value-fits k = omega arith
 
-faults-plain : (n : ℕ) (l : List ℕ) → Every Plain (listFaults n l)
-unfolding listFaults lineValue
-faults-plain n l = also refl (lines-plain n 0 1 l)
+lines-fit : (n prev k : ℕ) (l : List ℕ) → Every SmallValue (linesFaults n prev k l)
+unfolding lineFaults linesFaults
+lines-fit n prev k [] = none
+lines-fit n prev k (p ∷ []) = none
+lines-fit n prev k (p ∷ q ∷ l) = also (line-value-fits k) (also (line-value-fits k) (also (line-value-fits k) (lines-fit n p (suc k) l)))
 
-list-plain : (T : Tables) (l : List ℕ) → Every Plain (lentList T l)
+faults-fit : (n : ℕ) (l : List ℕ) → Every SmallValue (listFaults n l)
+unfolding listFaults
+faults-fit n l = also (line-value-fits (length l / 2 + 1)) (lines-fit n 0 1 l)
+
+list-fits : (T : Tables) (l : List ℕ) → Every SmallValue (lentList T l)
 unfolding lentList
-list-plain T l = every-append (both-plain T) (faults-plain (partCount T) l)
+list-fits T l = every-append (both-fit T) (faults-fit (partCount T) l)
 
-register-plain : (R : List ℕ) → Every Plain (lentRegister R)
+lent-register-fits : (R : List ℕ) → Every SmallValue (lentRegister R)
 unfolding lentRegister
-register-plain R = also refl (also refl none)
+lent-register-fits R = also some-limit (also some-limit none)
 
 register-passed : (R : List ℕ) → isRefused (decide (lentRegister R) 0) ≡ false → Ready R
 unfolding lentRegister
@@ -172,24 +181,18 @@ register-passed R e =
     let b = done-passes _ _ _ _ (a .1) in
     record { fits = not-false _ (a .0); sound = not-false _ (b .0) }
 
-abbrev limit : ℕ
-limit = 4294967296
-
-some-limit : 0 < limit
-some-limit = omega arith
-
 end-small : (v : ℕ) → v < limit → valueOf (decide [] v) < limit
 unfolding decide
 end-small v h = h
 
-small-end : (cs : List Case) (v : ℕ) → Every Plain cs → (isRefused (decide cs 0) ≡ false → v < limit) → valueOf (decide cs v) < limit
-small-end cs v p f = rw append-nil at (small-front limit some-limit cs [] v p (λ e. end-small v (f e)))
+small-end : (cs : List Case) (v : ℕ) → Every SmallValue cs → (isRefused (decide cs 0) ≡ false → v < limit) → valueOf (decide cs v) < limit
+small-end cs v p f = rw append-nil at (small-front cs [] v p (λ e. end-small v (f e)))
 
 -- an output that is set down
-down-small : (cs : List Case) (xs o : List ℕ) → Every Plain cs → (isRefused (decide cs 0) ≡ false → length xs < limit) →
+down-small : (cs : List Case) (xs o : List ℕ) → Every SmallValue cs → (isRefused (decide cs 0) ≡ false → length xs < limit) →
     valueOf (answer (setDown cs xs o)) < limit
 unfolding answer setDown
-down-small cs xs o p f = small-front limit some-limit cs _ _ p (λ e. small-step limit some-limit _ _ _ (λ _. f e) (λ _. end-small _ (f e)))
+down-small cs xs o p f = small-front cs _ _ p (λ e. small-step _ _ _ (λ _. f e) (λ _. end-small _ (f e)))
 
 -- The register's calls
 module _ (n R : List ℕ) where
@@ -199,24 +202,24 @@ module _ (n R : List ℕ) where
 
   pub registering-small : valueOf (answer (registering n R)) < limit
   unfolding answer registering numberRefusals
-  registering-small = small-front limit some-limit (lentRegister R) _ _ (register-plain R) (λ e.
+  registering-small = small-front (lentRegister R) _ _ (lent-register-fits R) (λ e.
       let r = register-passed R e in
-      small-step limit some-limit _ _ _ (λ _. some-limit) (λ _.
-      small-step limit some-limit _ _ _ (λ _. place-small r) (λ _.
-      small-step limit some-limit _ _ _ (λ _. omega arith) (λ _. end-small _ (omega (arith, few-parts R r))))))
+      small-step _ _ _ (λ _. some-limit) (λ _.
+      small-step _ _ _ (λ _. place-small r) (λ _.
+      small-step _ _ _ (λ _. omega arith) (λ _. end-small _ (omega (arith, few-parts R r))))))
 
   pub looking-small : valueOf (answer (lookingUp n R)) < limit
   unfolding answer lookingUp
-  looking-small = small-front limit some-limit (lentRegister R) _ _ (register-plain R) (λ e.
+  looking-small = small-front (lentRegister R) _ _ (lent-register-fits R) (λ e.
       let r = register-passed R e in
-      small-step limit some-limit _ _ _ (λ _. some-limit) (λ _.
-      small-step limit some-limit _ _ _ (λ _. some-limit) (λ _. end-small _ (place-small r))))
+      small-step _ _ _ (λ _. some-limit) (λ _.
+      small-step _ _ _ (λ _. some-limit) (λ _. end-small _ (place-small r))))
 
 pub showing-small : (p : ℕ) (R : List ℕ) → valueOf (answer (showing p R)) < limit
 unfolding answer showing
 showing-small p R =
-    small-front limit some-limit (lentRegister R) _ _ (register-plain R)
-    (λ e. small-step limit some-limit _ _ _ (λ _. some-limit) (λ _. end-small _ some-limit))
+    small-front (lentRegister R) _ _ (lent-register-fits R)
+    (λ e. small-step _ _ _ (λ _. some-limit) (λ _. end-small _ some-limit))
 
 -- Tables that are lent, of 16-bit words
 module _ (R N : List ℕ) (words : (i : ℕ) → getD N i 0 < twoLimit) where
@@ -247,32 +250,32 @@ module _ (R N : List ℕ) (words : (i : ℕ) → getD N i 0 < twoLimit) where
 
   pub inserting-small : (l : List ℕ) (t : ℕ) → valueOf (answer (inserting l t (tables R N))) < limit
   unfolding answer inserting entryRefusals
-  inserting-small l t = small-front limit some-limit (lentBoth T) _ _ (both-plain T) (λ e.
+  inserting-small l t = small-front (lentBoth T) _ _ (both-fit T) (λ e.
       let L = both-passed R N e in
-      small-step limit some-limit _ _ _ (λ _. some-limit) (λ _.
-      small-front limit some-limit (listFaults (partCount T) l) _ _ (faults-plain (partCount T) l) (λ _.
-      small-step limit some-limit _ _ _ (λ _. some-limit) (λ s.
+      small-step _ _ _ (λ _. some-limit) (λ _.
+      small-front (listFaults (partCount T) l) _ _ (faults-fit (partCount T) l) (λ _.
+      small-step _ _ _ (λ _. some-limit) (λ s.
       let few : lacks N 0 (units l) ≤ 64 = omega (arith, lacks-most N 0 (units l), ltb-false mostUnits (length (units l)) s) in
-      small-step limit some-limit _ _ _ (λ _. tag-here L (units l)) (λ _.
-      small-step limit some-limit _ _ _ (λ _. some-limit) (λ _.
-      small-step limit some-limit _ _ _ (λ _. omega arith) (λ _. end-small _ (omega arith))))))))
+      small-step _ _ _ (λ _. tag-here L (units l)) (λ _.
+      small-step _ _ _ (λ _. some-limit) (λ _.
+      small-step _ _ _ (λ _. omega arith) (λ _. end-small _ (omega arith))))))))
 
   pub finding-small : (l : List ℕ) → valueOf (answer (finding l (tables R N))) < limit
   unfolding answer finding missingRefusals
   finding-small l =
-      small-front limit some-limit (lentList T l) _ _ (list-plain T l)
-      (λ e. small-step limit some-limit _ _ _ (λ _. some-limit) (λ _. end-small _ (tag-here (list-lent l e) (units l))))
+      small-front (lentList T l) _ _ (list-fits T l)
+      (λ e. small-step _ _ _ (λ _. some-limit) (λ _. end-small _ (tag-here (list-lent l e) (units l))))
 
   pub deleting-small : (l : List ℕ) → valueOf (answer (deleting l (tables R N))) < limit
   unfolding answer deleting missingRefusals
   deleting-small l =
-      small-front limit some-limit (lentList T l) _ _ (list-plain T l)
-      (λ e. small-step limit some-limit _ _ _ (λ _. some-limit) (λ _. end-small _ (tag-here (list-lent l e) (units l))))
+      small-front (lentList T l) _ _ (list-fits T l)
+      (λ e. small-step _ _ _ (λ _. some-limit) (λ _. end-small _ (tag-here (list-lent l e) (units l))))
 
   pub any-small : (question : Question) (l : List ℕ) → valueOf (answer (anyKit question l (tables R N))) < limit
   unfolding answer anyKit anyOf
   any-small question l =
-      small-end (lentList T l) _ (list-plain T l)
+      small-end (lentList T l) _ (list-fits T l)
       (λ e. first-small limit (fitting question l N) some-limit (fitting-here (list-lent l e) question l))
 
   few-fitting : (question : Question) (l : List ℕ) → isRefused (decide (lentList T l) 0) ≡ false →
@@ -283,18 +286,18 @@ module _ (R N : List ℕ) (words : (i : ℕ) → getD N i 0 < twoLimit) where
 
   pub all-small : (question : Question) (l o : List ℕ) → valueOf (answer (allKits question l (tables R N) o)) < limit
   unfolding allKits allOf fitting
-  all-small question l o = down-small (lentList T l) _ o (list-plain T l) (few-fitting question l)
+  all-small question l o = down-small (lentList T l) _ o (list-fits T l) (few-fitting question l)
 
   pub almost-small : (d : ℕ) (l : List ℕ) (o : Both) → valueOf (answer (almostKits d l (tables R N) o)) < limit
   unfolding answer almostKits setBoth allOf fitting
-  almost-small d l o = rw append-assoc (small-front limit some-limit (lentList T l) _ _ (list-plain T l) (λ e.
-      small-step limit some-limit _ _ _ (λ _. some-limit) (λ _.
+  almost-small d l o = rw append-assoc (small-front (lentList T l) _ _ (list-fits T l) (λ e.
+      small-step _ _ _ (λ _. some-limit) (λ _.
       let few : length (tagsOf (fitting (isAlmost d) l N)) < limit = few-fitting (isAlmost d) l e in
-      small-step limit some-limit _ _ _ (λ _. few) (λ _. end-small _ few))))
+      small-step _ _ _ (λ _. few) (λ _. end-small _ few))))
 
   pub emptying-small : valueOf (answer (emptying (tables R N))) < limit
   unfolding answer emptying
-  emptying-small = small-end (lengths T) 0 (lengths-plain T) (λ _. some-limit)
+  emptying-small = small-end (lengths T) 0 (lengths-fit T) (λ _. some-limit)
 
 -- A sheet that fits the format
 module _ (c : Contents) (F : Fits c) where
@@ -332,17 +335,17 @@ module _ (c : Contents) (F : Fits c) where
 pub writing-small : (R N : List ℕ) (words : (i : ℕ) → getD N i 0 < twoLimit) (o : List ℕ) → valueOf (answer (writing (tables R N) o)) < limit
 unfolding writing
 writing-small R N words o =
-    down-small (lentBoth (tables R N)) _ o (both-plain (tables R N))
+    down-small (lentBoth (tables R N)) _ o (both-fit (tables R N))
     (λ e. sheet-small (contentsOf R N) (fits-here R N words (both-passed R N e)))
 
 pub reading-small : (s : List ℕ) (T : Tables) → Bytes s → valueOf (answer (reading s T)) < limit
 unfolding answer reading sheetRefusals roomRefusals
-reading-small s T h = small-front limit some-limit (lengths T) _ _ (lengths-plain T) (λ e.
-    small-step limit some-limit _ _ _ (λ _. omega (arith, fault-near s h)) (λ f.
+reading-small s T h = small-front (lengths T) _ _ (lengths-fit T) (λ e.
+    small-step _ _ _ (λ _. omega (arith, fault-near s h)) (λ f.
     let c = said (decode s) in
     let F : Fits c = fitting-fits c (said-again s h f .1) in
-    small-step limit some-limit _ _ _ (λ _. omega (arith, F .few-parts)) (λ _.
-    small-step limit some-limit _ _ _ (λ _. nodes-small c F) (λ _. end-small _ (omega (arith, F .few-kits))))))
+    small-step _ _ _ (λ _. omega (arith, F .few-parts)) (λ _.
+    small-step _ _ _ (λ _. nodes-small c F) (λ _. end-small _ (omega (arith, F .few-kits))))))
 
 pub values-fit : ValuesFit
 unfolding planOf answer

@@ -1,6 +1,7 @@
 -- The three demands as statements, the document's own examples, and its limits.
 pub mod Model
 pub mod Demand1
+pub mod AtFault
 pub mod Demand2
 pub mod Almost
 pub mod Demand3

@@ -1,4 +1,4 @@
--- Every limit of document 01, on both sides of its bound, and every pair of neighbours in its order of refusals, in literal numbers, to be held
+-- Every limit of documents 01 and 02, on both sides of its bound, and every pair of neighbours in its order of refusals, in literal numbers, to be held
 -- against the document's words. Computed. Proof: proofs/Limits, `limits`
 use mathlib.Core.Path.{_≡_}
 use mathlib.Core.Bool.{Bool}
@@ -6,9 +6,10 @@ use mathlib.Core.List.{List, [], _∷_, _++_, map}
 use Prim.Native.Nat.{ℕ, zero, suc, _+_, _-_, _*_, _/_}
 use lib.ListN.{take, replicate}
 use Rattle.ground.specs.Lists.{from, keep, isZero}
-use Rattle.ground.specs.Calls.{Reply, done, refused, numberOf, valueOf, answer, both}
+use Rattle.ground.specs.Calls.{Reply, done, refused, numberOf, valueOf, decide, answer, both}
 use Rattle.ground.specs.Tables.{Tables, tables}
 use Rattle.register.specs.Calls.{registering, lookingUp, showing}
+use Rattle.kits.specs.Kits.{lineValue, listFaults}
 use Rattle.questions.specs.Questions.{isWithin, isContaining}
 use Rattle.sheet.specs.Sheet.{encode}
 use Rattle.catalogue.specs.Calls.{Call, registerPart, insertKit, deleteKit, emptying, inserting, finding, anyKit, allKits, almostKits, reading}
@@ -77,20 +78,47 @@ PathLimits =
     × (pathAnswer 16 16 ≡ refused 2 0)
 
 ------------------------------------------------------------------------
--- "Places strictly rise; each quantity is 1 to 15. An empty list is good." "then 4 for odd length; then line by line 4, 5, 6"
+-- "Places strictly rise; each quantity is 1 to 15. An empty list is good." "then 4 for odd length; then line by line 4, 5, 6". Request 2: "Refusals
+-- 4, 5 and 6 should carry the line, counted from 1, as their value; an odd list is charged to the line that lacks its quantity"
 
-unfoldable pub listNumber : List ℕ → ℕ
-listNumber l = numberOf (answer (anyKit isWithin l (fiveParts 1)))
+unfoldable pub listAnswer : List ℕ → Reply
+listAnswer l = answer (anyKit isWithin l (fiveParts 1))
 
 abbrev pub ListLimits : Type 0
 ListLimits =
-    (map listNumber ([] ∷ (1 ∷ 1 ∷ []) ∷ (1 ∷ 15 ∷ []) ∷ (5 ∷ 1 ∷ []) ∷ (1 ∷ 1 ∷ 2 ∷ 1 ∷ []) ∷ []) ≡ replicate 5 0)
+    (map listAnswer ([] ∷ (1 ∷ 1 ∷ []) ∷ (1 ∷ 15 ∷ []) ∷ (5 ∷ 1 ∷ []) ∷ (1 ∷ 1 ∷ 2 ∷ 1 ∷ []) ∷ []) ≡ replicate 5 (done 0))
     -- 4: odd, place 0, equal, falling; each beside a quantity that is wrong
-    × (map listNumber ((1 ∷ []) ∷ (1 ∷ 0 ∷ 2 ∷ []) ∷ (0 ∷ 0 ∷ []) ∷ (1 ∷ 1 ∷ 1 ∷ 0 ∷ []) ∷ (2 ∷ 1 ∷ 1 ∷ 0 ∷ []) ∷ []) ≡ replicate 5 4)
+    × (map listAnswer ((1 ∷ []) ∷ (1 ∷ 0 ∷ 2 ∷ []) ∷ (0 ∷ 0 ∷ []) ∷ (1 ∷ 1 ∷ 1 ∷ 0 ∷ []) ∷ (2 ∷ 1 ∷ 1 ∷ 0 ∷ []) ∷ [])
+    ≡ refused 4 1 ∷ refused 4 2 ∷ refused 4 1 ∷ refused 4 2 ∷ refused 4 2 ∷ [])
     -- 5: beyond the parts; beside a wrong quantity, and before the next line's 4
-    × (map listNumber ((6 ∷ 1 ∷ []) ∷ (6 ∷ 16 ∷ []) ∷ (6 ∷ 1 ∷ 6 ∷ 1 ∷ []) ∷ []) ≡ replicate 3 5)
+    × (map listAnswer ((6 ∷ 1 ∷ []) ∷ (6 ∷ 16 ∷ []) ∷ (6 ∷ 1 ∷ 6 ∷ 1 ∷ []) ∷ (1 ∷ 1 ∷ 6 ∷ 1 ∷ []) ∷ [])
+    ≡ refused 5 1 ∷ refused 5 1 ∷ refused 5 1 ∷ refused 5 2 ∷ [])
     -- 6: below 1, above 15, and before the next line's 4
-    × (map listNumber ((1 ∷ 0 ∷ []) ∷ (1 ∷ 16 ∷ []) ∷ (1 ∷ 16 ∷ 1 ∷ 1 ∷ []) ∷ []) ≡ replicate 3 6)
+    × (map listAnswer ((1 ∷ 0 ∷ []) ∷ (1 ∷ 16 ∷ []) ∷ (1 ∷ 16 ∷ 1 ∷ 1 ∷ []) ∷ (1 ∷ 1 ∷ 2 ∷ 1 ∷ 3 ∷ 16 ∷ []) ∷ [])
+    ≡ refused 6 1 ∷ refused 6 1 ∷ refused 6 1 ∷ refused 6 3 ∷ [])
+
+-- n good lines from place p on, one of each
+unfoldable pub risingLines : ℕ → ℕ → List ℕ
+risingLines p zero = []
+risingLines p (suc n) = p ∷ 1 ∷ risingLines (suc p) n
+
+-- what the check of a list says beside 4,000 parts, which no register has
+unfoldable pub checkAnswer : List ℕ → Reply
+checkAnswer l = decide (listFaults 4000 l) 0
+
+abbrev pub LineLimits : Type 0
+LineLimits =
+    -- 4,000 lines: good; at fault on the first, on the last, on both; odd
+    (checkAnswer (risingLines 1 4000) ≡ done 0)
+    × (checkAnswer (1 ∷ 0 ∷ risingLines 2 3999) ≡ refused 6 1)
+    × (checkAnswer (risingLines 1 3999 ++ (4000 ∷ 16 ∷ [])) ≡ refused 6 4000)
+    × (checkAnswer (risingLines 1 3999 ++ (4001 ∷ 16 ∷ [])) ≡ refused 5 4000)
+    × (checkAnswer (risingLines 1 3999 ++ (3999 ∷ 16 ∷ [])) ≡ refused 4 4000)
+    × (checkAnswer (0 ∷ 1 ∷ (risingLines 1 3998 ++ (4001 ∷ 1 ∷ []))) ≡ refused 4 1)
+    × (checkAnswer (0 ∷ 1 ∷ (risingLines 1 3998 ++ (4000 ∷ []))) ≡ refused 4 4000)
+    -- "4,294,967,295 standing for any later line too"
+    × (map lineValue (1 ∷ 4294967294 ∷ 4294967295 ∷ 4294967296 ∷ 10000000000 ∷ [])
+    ≡ 1 ∷ 4294967294 ∷ 4294967295 ∷ 4294967295 ∷ 4294967295 ∷ [])
 
 ------------------------------------------------------------------------
 -- "A kit is at most 64 units"; "insertion needs more nodes than are free (value: how many too few)"; "an output exactly full and one short"
@@ -136,15 +164,15 @@ OrderOfRefusals =
     × (answer (inserting [] 0 (tables badRegister (replicate 6 0))) ≡ refused 2 0)
     × (answer (inserting [] 0 (tables (replicate 32 0) badNodes)) ≡ refused 2 0)
     × (answer (inserting (1 ∷ []) 0 twoKits) ≡ refused 8 0)
-    × (answer (inserting (sixtyAnd 16) 7 (fiveParts 1)) ≡ refused 6 0)
+    × (answer (inserting (sixtyAnd 16) 7 (fiveParts 1)) ≡ refused 6 5)
     -- 7 and 12; 9 and 10; 10 and 12; 12 alone
     × (answer (inserting (sixtyAnd 5) 7 (fiveParts 1)) ≡ refused 7 0)
     × (answer (inserting (1 ∷ 1 ∷ []) 2 twoKits) ≡ refused 9 1)
     × (answer (inserting (1 ∷ 3 ∷ []) 2 twoKits) ≡ refused 10 0)
     × (answer (inserting (1 ∷ 4 ∷ []) 3 twoKits) ≡ refused 12 2)
     -- listings: 6 and 12; 6 and 14; 14 and 12
-    × (answer (allKits isContaining (1 ∷ 0 ∷ []) twoKits []) ≡ refused 6 0)
-    × (answer (almostKits 65 (1 ∷ 0 ∷ []) twoKits (both [] [])) ≡ refused 6 0)
+    × (answer (allKits isContaining (1 ∷ 0 ∷ []) twoKits []) ≡ refused 6 1)
+    × (answer (almostKits 65 (1 ∷ 0 ∷ []) twoKits (both [] [])) ≡ refused 6 1)
     × (answer (almostKits 65 [] twoKits (both [] [])) ≡ refused 14 0)
     × (answer (almostKits 64 [] twoKits (both [] [])) ≡ refused 12 2)
     -- numbers: 1 and 3; 2 and 3; 3 and 12; 9 and 12; 12 alone; 11
@@ -225,4 +253,4 @@ SheetLimits =
 
 -- [15.1]
 abbrev pub Limits : Type 0
-Limits = NumberLimits × LengthLimits × PathLimits × ListLimits × RoomLimits × OrderOfRefusals × NodeWords × SheetLimits
+Limits = NumberLimits × LengthLimits × PathLimits × ListLimits × LineLimits × RoomLimits × OrderOfRefusals × NodeWords × SheetLimits

@@ -124,7 +124,7 @@ abbrev pub DeskExample : Type 0
 DeskExample =
     (replies entries (desk []) ≡ done 1 ∷ done 2 ∷ refused 9 1 ∷ done 3 ∷ done 3 ∷ done 0 ∷ done 1 ∷ refused 9 9 ∷ refused 10 0 ∷ [])
     × (memory (allKits isWithin (1 ∷ 1 ∷ 2 ∷ 4 ∷ []) (desk entries) (0 ∷ 0 ∷ 0 ∷ [])) (0 ∷ 0 ∷ 0 ∷ []) ≡ 9 ∷ 5 ∷ 0 ∷ [])
-    × (replies later (desk entries) ≡ done 7 ∷ done 0 ∷ done 7 ∷ refused 4 0 ∷ [])
+    × (replies later (desk entries) ≡ done 7 ∷ done 0 ∷ done 7 ∷ refused 4 2 ∷ [])
     × (answer (writing (desk (entries ++ later)) (replicate 34 0)) ≡ done 34)
     × (memory (writing (desk (entries ++ later)) (replicate 34 0)) (replicate 34 0) ≡ exampleSheet)
     × (answer (reading exampleSheet otherTables) ≡ done 2)

@@ -28,7 +28,7 @@ session =
     ∷ "K 8 4016 2 4016 1"
     ∷ "W" ∷ []
 
--- "Output"
+-- "Output", with request 2: "The last K reply in document 01 becomes `K 4 2`"
 unfoldable pub sessionReplies : List String
 sessionReplies =
     "P 0 1"
@@ -44,7 +44,7 @@ sessionReplies =
     ∷ "S 0 7"
     ∷ "B 0 0"
     ∷ "D 0 7"
-    ∷ "K 4 0"
+    ∷ "K 4 2"
     ∷ "W 0 34 4B495400010003053030373431033734310434303136000200090101010005010201" ∷ []
 
 -- [14.20] at a desk with room for what the session takes: four parts, six nodes, two places and 34 bytes. Proof: proofs/Session, `session-replied`
