@@ -6,16 +6,17 @@ from second.register import (
     LONGEST_NUMBER, MOST_SLOTS, NUMBER_BYTES, SLOT_BYTES, filled, numbers_of, right_length,
     slot_for, sound)
 
-# Numbers that an integer, a trimming or a short comparison would take for each other.
+# Numbers that an integer, a trimming, a folding or a short comparison would take for each other.
 ALIKE = [
     b"00741", b"0741", b"741", b"7410", b"74", b"7", b"0", b"00", b"A", b"AA", b"A-", b"-A",
     b"A.", b"A/", b".", b"/", b"-", b"4016", b"LM741", b"1E3", b"0X1", b"Z" * 23, b"Z" * 24,
-    b"Z" * 23 + b"A", b"A" + b"Z" * 23,
+    b"Z" * 23 + b"A", b"A" + b"Z" * 23, b"74LS00", b"74ls00", b"74Ls00", b"a", b"aA", b"lm741",
+    b"1e3", b"0x1", b"z" * 24, b"Z" * 23 + b"z",
 ]
 
 # Bytes at the edges of the allowed stretches, and a few that readers often treat apart.
 EDGE_BYTES = [0, 1, 9, 10, 13, 31, 32, 44, 45, 46, 47, 48, 57, 58, 64, 65, 90, 91, 96, 97, 122,
-              127, 128, 173, 176, 193, 254, 255]
+              123, 127, 128, 173, 176, 193, 225, 254, 255]
 
 PLACES = [0, 1, 2, 3, 4, 254, 255, 256, 257, 258, 511, 512, 2048, 32767, 32768, 65535]
 
@@ -91,7 +92,7 @@ def register_lengths():
             yield Request(letter, 2, R=register, I=number, note="register of %d bytes" % length)
     # 1 comes before 3, 11 and 2.
     yield Request("p", R=bytes(31), I=b"", note="wrong length and bad number")
-    yield Request("l", R=b"\x07" * 33, I=b"a", note="wrong length, unsound, bad number")
+    yield Request("l", R=b"\x07" * 33, I=b"_", note="wrong length, unsound, bad number")
 
 
 def slot_contents():
@@ -111,7 +112,7 @@ def slot_contents():
             slot[position] = value
             yield Request("p", R=slot_for(b"741") + slot, I=b"4016",
                           note="byte %d of an unused slot" % position)
-    for number in (b"", b"a", b"741", b"7" * 25):
+    for number in (b"", b"_", b"741", b"7" * 25):
         for letter in "pl":
             yield Request(letter, R=b"\x03741" + bytes(27) + b"1", I=number,
                           note="not sound comes before a bad number")
@@ -154,7 +155,7 @@ def full_registers():
         yield Request("n", slots, R=full, note="the last place")
         yield Request("n", slots + 1, R=full, note="past the last place")
         yield Request("p", R=filled(numbers[:-1], slots), I=b"NEW", note="the last free slot")
-    yield Request("p", R=filled(many_numbers(3), 3), I=b"new", note="full register, bad number")
+    yield Request("p", R=filled(many_numbers(3), 3), I=b"NEW_", note="full register, bad number")
 
 
 def places():
@@ -175,7 +176,7 @@ def alike_numbers():
             for letter in "pl":
                 yield Request(letter, R=register, I=number, note="numbers that look alike")
     register = filled(ALIKE, len(ALIKE) + 1)
-    for number in ALIKE + [b"A" * 23, b"A" * 24, b"Z" * 22, b"741 ", b" 741", b"741\0", b"a"]:
+    for number in ALIKE + [b"A" * 23, b"A" * 24, b"Z" * 22, b"741 ", b" 741", b"741\0", b"A_"]:
         yield Request("l", R=register, I=number, note="numbers that look alike")
     yield Request("p", R=register, I=b"741A", note="numbers that look alike")
 
@@ -188,6 +189,16 @@ def some_good_number(chance):
     return bytes(chance.pick(NUMBER_BYTES) for _ in range(length))
 
 
+def some_numbers(chance, count):
+    """So many good numbers by chance, no two the same."""
+    numbers = []
+    while len(numbers) < count:
+        number = some_good_number(chance)
+        if number not in numbers:
+            numbers.append(number)
+    return numbers
+
+
 def some_register(chance, used=None):
     """A sound register, often small, often full or nearly so."""
     slots = chance.pick((1, 2, 3, 4, 4, 5, 6, 8, chance.between(1, 40)))
@@ -195,12 +206,7 @@ def some_register(chance, used=None):
         slots = chance.pick((MOST_SLOTS, MOST_SLOTS - 1, chance.between(41, MOST_SLOTS)))
     if used is None:
         used = chance.pick((slots, slots, slots - 1, chance.between(0, slots)))
-    numbers = []
-    while len(numbers) < min(used, slots):
-        number = some_good_number(chance)
-        if number not in numbers:
-            numbers.append(number)
-    return filled(numbers, slots)
+    return filled(some_numbers(chance, min(used, slots)), slots)
 
 
 def damaged_register(chance, register):

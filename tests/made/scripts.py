@@ -206,10 +206,10 @@ def lookups():
     yield from registering([b"A", b"B"])
     for letter in ("K 0", "K 1", *LIST_LETTERS):
         head = letter.encode("ascii")
-        for pairs in (b" C 1", b" c 1", b" C 1 c 1", b" c 1 C 1", b" A 1 C 1", b" A 0 C 1",
-                      b" B 1 A 1 C 1", b" A 1 A 1 c 1", b" A 99 B 0", b" A 16 C 0", b" B 1 A 1",
+        for pairs in (b" C 1", b" _ 1", b" C 1 _ 1", b" _ 1 C 1", b" A 1 C 1", b" A 0 C 1",
+                      b" B 1 A 1 C 1", b" A 1 A 1 _ 1", b" A 99 B 0", b" A 16 C 0", b" B 1 A 1",
                       b" A 1 A 1", b" A 0", b" A 16", b" A 15", b" " + b"A" * 24 + b" 1",
-                      b" " + b"A" * 25 + b" 1", b" C x", b" A 1 C", b""):
+                      b" " + b"A" * 25 + b" 1", b" C x", b" A 1 C", b"", b" a 1", b" A 1 b 1"):
             yield head + pairs
     yield b"W"
 
@@ -218,7 +218,7 @@ def forty_lines():
     """A list of forty lines, which is entered, and others with one or two of them at fault."""
     numbers = many_numbers(len(FORTY))
     yield from registering(numbers)
-    numbers += [b"NEW", b"new"]
+    numbers += [b"NEW", b"NEW_"]
     good = forty({})
     at_fault = [forty(changed) for changed in (*faults_in_forty(), *LOOKED_UP_IN_FORTY)]
     for lines in (good, *at_fault):
@@ -301,7 +301,7 @@ def last_slot():
     """255 parts, a 256th, and a held one and a bad one in the full register."""
     numbers = many_numbers(SLOTS)
     yield from registering(numbers)
-    yield from registering([b"NEW", numbers[0], numbers[-1], b"new", b"NEW"])
+    yield from registering([b"NEW", numbers[0], numbers[-1], b"NEW_", b"new", b"NEW"])
     yield b"K 1 %s 15 %s 1" % (numbers[0], numbers[-1])
     yield b"K 2 NEW 1"
     yield b"s"
@@ -390,8 +390,8 @@ def many_kits():
 
 # Numbers that a script by chance uses, and now and then one against the rule.
 GOOD_NUMBERS = [b"A", b"B", b"C", b"AA", b"00741", b"0741", b"741", b"4016", b"1", b"0", b"2",
-                b"X-1", b"X.1", b"X/1", b"Z" * 24]
-BAD_NUMBERS = [b"a", b"A_", b"Z" * 25, b"A\0", b"\xc4"]
+                b"X-1", b"X.1", b"X/1", b"Z" * 24, b"a", b"aA", b"x-1", b"z" * 24]
+BAD_NUMBERS = [b"`", b"a{", b"A_", b"Z" * 25, b"A\0", b"\xc4"]
 
 
 def stored():

@@ -109,9 +109,9 @@ def item_faults():
         yield reading(sheet_of(THREE, THREE_KITS, kits=kits), note="kit count %d of 3" % kits)
     rows = [
         [b""], [b"A", b""], [b"A" * 23], [b"A" * 24], [b"A" * 25], [b"A" * 255], [b"A", b"A"],
-        [b"A", b"B", b"A"], [b"00741", b"0741", b"741"], [b"74", b"741", b"7410"], [b"a"],
-        [b"A B"], [b"A", b"B\0"], [b"-./"], [b"A:"], [b"A", b"\xc3\x9f"], [b"A", b"B", b"B", b"a"],
-        [b"A", b"a", b"A"], [b"A\n"],
+        [b"A", b"B", b"A"], [b"00741", b"0741", b"741"], [b"74", b"741", b"7410"], [b"_"],
+        [b"A B"], [b"A", b"B\0"], [b"-./"], [b"A:"], [b"A", b"\xc3\x9f"], [b"A", b"B", b"B", b"_"],
+        [b"A", b"_", b"A"], [b"A\n"],
     ]
     for row in rows:
         yield reading(sheet_of(row, []), note="numbers %s" % row)

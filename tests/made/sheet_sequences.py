@@ -22,14 +22,15 @@ from .tables import some_new_tag, some_row
 LONGEST_WAY = 2000
 
 # Numbers that are against the rule.
-BAD_NUMBERS = [b"", b"a", b"A B", b"7" * 25, b"741\n", b"\0", b"A:"]
+BAD_NUMBERS = [b"", b"_", b"A B", b"7" * 25, b"741\n", b"\0", b"A:"]
 
 
 def some_number(chance, numbers):
     """A good number that is not among these; numbers that look alike come often."""
     while True:
         number = chance.pick((chance.pick(ALIKE), b"%d" % chance.below(10000),
-                              b"N/%03d-%d" % (chance.below(999), chance.below(9))))
+                              b"%c/%03d-%d" % (chance.pick(b"Nn"), chance.below(999),
+                                               chance.below(9))))
         if number not in numbers:
             return number
 
