@@ -249,10 +249,12 @@ def some_good_number(chance):
 
 
 def some_numbers(chance, count):
-    """So many good numbers by chance, no two the same."""
+    """So many good numbers by chance, no two the same; now and then one in the other case too."""
     numbers = []
     while len(numbers) < count:
         number = some_good_number(chance)
+        if numbers and chance.one_in(6):
+            number = chance.pick(numbers).swapcase()
         if number not in numbers:
             numbers.append(number)
     return numbers
