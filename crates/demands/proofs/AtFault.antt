@@ -21,9 +21,8 @@ use Rattle.nodes.proofs.Sorted as sorted
 use Rattle.nodes.proofs.Sorted.{Every, also}
 use Rattle.index.specs.Index.{entryRefusals, missingRefusals}
 use Rattle.tables.specs.Lent.{partCount, lengths, lentBoth, lentList}
-use Rattle.catalogue.specs.Calls.{Call, insertKit, findKit, deleteKit, anyWithin, anyContaining, allWithin, allContaining, allAlmost, planOf}
-use Rattle.catalogue.specs.Calls.{inserting, finding, deleting, anyKit, allKits, almostKits}
-use Rattle.demands.specs.AtFault.{firstLines, ChargedTo, by-half, by-line, LineCharged, SomeLine, TakesList, to-insert, to-find, to-delete}
+use Rattle.catalogue.specs.Calls.{Call, planOf, inserting, finding, deleting, anyKit, allKits, almostKits}
+use Rattle.demands.specs.AtFault.{firstLines, by-half, by-line, LineCharged, SomeLine, TakesList, to-insert, to-find, to-delete}
 use Rattle.demands.specs.AtFault.{within-any, containing-any, within-all, containing-all, almost-all, ListExactly}
 use Rattle.demands.proofs.Damaged.{Above, behind-above, tablesThen, wrong}
 

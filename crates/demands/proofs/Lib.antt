@@ -15,5 +15,6 @@ pub mod Shown
 pub mod Offsets
 pub mod Values
 pub mod Opened
+pub mod Before
 pub mod ShortCases
 pub mod Limits

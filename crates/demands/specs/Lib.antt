@@ -7,4 +7,5 @@ pub mod Almost
 pub mod Demand3
 pub mod Pins
 pub mod ShortCases
+pub mod Before
 pub mod Limits

@@ -23,7 +23,7 @@ abbrev pub emptyTables : ℕ → ℕ → Tables
 emptyTables slots nodes = zeroTables (slots * 32) (nodes * 6)
 
 ------------------------------------------------------------------------
--- "A part number is 1 to 24 bytes, each a digit, a capital A to Z, hyphen, full stop or slash."
+-- "A part number is 1 to 24 bytes, each a digit, a capital A to Z, hyphen, full stop or slash." "The letters a to z join the allowed bytes."
 
 unfoldable pub registeredAlone : List ℕ → Reply
 registeredAlone n = answer (registering n (replicate 32 0))
@@ -36,8 +36,8 @@ NumberLimits =
     (registeredAlone [] ≡ refused 3 0)
     × (registeredAlone (replicate 24 0x41) ≡ done 1)
     × (registeredAlone (replicate 25 0x41) ≡ refused 3 0)
-    -- of all bytes: - . / 0 to 9, A to Z
-    × (keep mayStand (from 0 256) ≡ from 0x2D 13 ++ from 0x41 26)
+    -- of all bytes: - . / 0 to 9, A to Z, a to z
+    × (keep mayStand (from 0 256) ≡ from 0x2D 13 ++ (from 0x41 26 ++ from 0x61 26))
 
 ------------------------------------------------------------------------
 -- "Its length is a multiple of 32 from 32 to 8,160 (1 to 255 parts)." "Lent 16-bit words, six per node .. 1 to 4,096 nodes."

@@ -31,7 +31,7 @@ use Rattle.desk_lists.specs.Typed.{inFrontOf, lookedUp}
 use Rattle.desk_lines.specs.Sizes.{emptyDesk}
 use Rattle.desk_lines.specs.Desk.{called, shown, sheetText, registerLine, writeLine, withList, callOf, asked, askLine, atDesk}
 use Rattle.desk_demands.specs.Text.{bytesOf, textOf, repliesTo, replyText}
-use Rattle.desk_demands.specs.Session.{session, sessionReplies, SessionReplied, LineCases}
+use Rattle.desk_demands.specs.Session.{session, sessionReplies, SessionReplied, LettersReplied, LineCases}
 
 -- opens every definition that taking a line apart uses
 unfoldable lineOpened : Bool
@@ -56,6 +56,10 @@ opened = true
 pub session-replied : SessionReplied
 unfolding opened
 session-replied = refl
+
+pub letters-replied : LettersReplied
+unfolding opened
+letters-replied = refl
 
 pub line-cases : LineCases
 unfolding lineOpened

@@ -51,6 +51,12 @@ sessionReplies =
 abbrev pub SessionReplied : Type 0
 SessionReplied = replyText 4 6 2 34 (textOf session) ≡ textOf sessionReplies
 
+-- [14.20] request 3: small letters are characters, and never folded. Proof: proofs/Session, `letters-replied`
+abbrev pub LettersReplied : Type 0
+LettersReplied =
+    replyText 2 1 1 1 (textOf ("P 74ls00" ∷ "P 74LS00" ∷ "P 74ls00" ∷ "P 74Ls00" ∷ "F 74LS00 1" ∷ []))
+    ≡ textOf ("P 0 1" ∷ "P 0 2" ∷ "P 9 1" ∷ "P 12 1" ∷ "F 11 0" ∷ [])
+
 -- a line typed, taken apart
 abbrev pub lineTyped : String → Parsed
 lineTyped l = parsed (bytesOf l)
