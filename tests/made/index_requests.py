@@ -7,9 +7,10 @@ from second import index, nodes
 from second.kits import MOST_QUANTITY, beginnings, lines_of, lines_of_words, units, words_of
 from second.lent import Request
 from second.nodes import MOST_NODES, NODE_WORDS
-from second.register import MOST_SLOTS
+from second.register import MOST_SLOTS, filled
 
 from .broken_tables import BROKEN_TABLES, LOST_NODES, RAW_PATHS, TWO_CHAINS, WRONG_LINKS
+from .register_requests import with_byte
 from .short_cases import CONTAINING, DELETE, PRINTED_STEPS, SHORT_CASES, WITHIN
 from .tables import (
     LARGE_KINDS, Stock, copied, example_words, large_table, parts_register, raw_path,
@@ -50,6 +51,7 @@ def limits():
     yield from table_lengths()
     yield from emptied_tables()
     yield from tables_in_order()
+    yield from spelled_parts()
     yield from broken_tables()
     yield from broken_chains()
     yield from raw_paths()
@@ -98,6 +100,19 @@ def tables_in_order():
                 yield Request(letter, tag, R=register, N=words, L=bad, **some_outputs(letter),
                               O=b"a sheet goes here at the start of this output and more",
                               note=note)
+
+
+def on_two_parts(letter, register, note):
+    """A request on two kits, of one unit each of the parts 1 and 2."""
+    return Request(letter, tag_or_most(letter, 77), R=register, N=table(3, ((1,), 4), ((2,), 9)),
+                   L=[2, 1], **some_outputs(letter, 3), O=bytes(60), note=note)
+
+
+def spelled_parts():
+    """Parts whose numbers differ in case only, and one of them twice."""
+    for numbers in ([b"74ls00", b"74LS00"], [b"74ls00", b"74LS00", b"74ls00"]):
+        for letter in TABLE_LETTERS:
+            yield on_two_parts(letter, filled(numbers, 3), "parts %s" % numbers)
 
 
 def broken_tables():
@@ -277,11 +292,15 @@ def bins():
 
 
 def sweeps():
-    """Words of small tables set to many values, and nodes moved, for one call after the other."""
+    """Words of small tables set to many values, and nodes moved, for one call after the other.
+
+    Every byte value in a slot of the register, for all of them.
+    """
     letters = cycle(TABLE_LETTERS)
     yield from swept_words(letters)
     yield from swept_pairs(letters)
     yield from moved_nodes(letters)
+    yield from swept_slots()
 
 
 def swept(letters, words, listed, places, room, note):
@@ -323,6 +342,13 @@ def moved_nodes(letters):
         for changed in (swapped(example, one, other), copied(example, one, other)):
             yield swept(letters, nodes.words_of(changed), [1, 1, 3, 1], 9, 80,
                         "nodes %d and %d" % (one, other))
+
+
+def swept_slots():
+    """A number with each byte value in the register, its position by turns."""
+    for value, letter in product(range(256), TABLE_LETTERS):
+        number = with_byte(bytes([value]))[value % 3]
+        yield on_two_parts(letter, filled([b"4016", number], 2), "byte %d in a slot" % value)
 
 
 def large():

@@ -1,21 +1,33 @@
 """Requests that try the register's calls: fixed ones at every limit, and ones by chance."""
 
+from itertools import chain, permutations
+
 from run.frame import ROOM
 from second.lent import Request
 from second.register import (
     LONGEST_NUMBER, MOST_SLOTS, NUMBER_BYTES, SLOT_BYTES, filled, numbers_of, right_length,
     slot_for, sound)
 
-# Numbers that an integer, a trimming or a short comparison would take for each other.
+# Numbers that an integer, a trimming, a folding or a short comparison would take for each other.
 ALIKE = [
     b"00741", b"0741", b"741", b"7410", b"74", b"7", b"0", b"00", b"A", b"AA", b"A-", b"-A",
     b"A.", b"A/", b".", b"/", b"-", b"4016", b"LM741", b"1E3", b"0X1", b"Z" * 23, b"Z" * 24,
-    b"Z" * 23 + b"A", b"A" + b"Z" * 23,
+    b"Z" * 23 + b"A", b"A" + b"Z" * 23, b"74LS00", b"74ls00", b"74Ls00", b"a", b"aA", b"lm741",
+    b"1e3", b"0x1", b"z" * 24, b"Z" * 23 + b"z",
 ]
 
 # Bytes at the edges of the allowed stretches, and a few that readers often treat apart.
 EDGE_BYTES = [0, 1, 9, 10, 13, 31, 32, 44, 45, 46, 47, 48, 57, 58, 64, 65, 90, 91, 96, 97, 122,
-              127, 128, 173, 176, 193, 254, 255]
+              123, 127, 128, 173, 176, 193, 225, 254, 255]
+
+# The bytes just before and just behind the capitals and the small letters.
+BESIDE_LETTERS = b"@[`{"
+
+# Numbers that differ in case only.
+CASE_PAIRS = [
+    (b"74ls00", b"74LS00"), (b"74LS00", b"74Ls00"), (b"a", b"A"), (b"-z/1", b"-Z/1"),
+    (b"z" * 24, b"Z" * 24), (b"Z" * 23 + b"z", b"Z" * 24),
+]
 
 PLACES = [0, 1, 2, 3, 4, 254, 255, 256, 257, 258, 511, 512, 2048, 32767, 32768, 65535]
 
@@ -23,6 +35,17 @@ PLACES = [0, 1, 2, 3, 4, 254, 255, 256, 257, 258, 511, 512, 2048, 32767, 32768, 
 def many_numbers(count):
     """So many good numbers, no two the same."""
     return [b"%05d" % (7 * at) for at in range(count)]
+
+
+def many_spellings(count):
+    """So many numbers, at most 256, no two the same, that differ in case only."""
+    return [bytes(letter - 32 * (at >> bit & 1) for bit, letter in enumerate(b"abcdefgh"))
+            for at in range(count)]
+
+
+def with_byte(byte):
+    """Numbers with this byte first, in the middle and last."""
+    return byte + b"AB", b"A" + byte + b"B", b"AB" + byte
 
 
 def limits():
@@ -33,6 +56,8 @@ def limits():
     yield from full_registers()
     yield from places()
     yield from alike_numbers()
+    yield from beside_letters()
+    yield from case_pairs()
 
 
 def sweeps():
@@ -42,13 +67,19 @@ def sweeps():
 
 
 def large():
-    """Registers and numbers as large as the probe has room for."""
+    """Registers and numbers as large as the probe has room for; 255 spellings of one word."""
     yield Request("p", R=bytes(SLOT_BYTES), I=b"7" * ROOM["I"], note="a number of 65,536 bytes")
     yield Request("l", R=slot_for(b"7"), I=b"7" * ROOM["I"], note="a number of 65,536 bytes")
     for letter in "pln":
         for length in (8128, 8159, ROOM["R"]):
             yield Request(letter, 1, R=filled([b"A"], 257)[:length], I=b"A",
                           note="register of %d bytes" % length)
+    *spellings, another = many_spellings(MOST_SLOTS + 1)
+    twice = [*spellings[:-1], spellings[0]]
+    for number in (spellings[0], spellings[-1], another):
+        for letter in "pl":
+            yield Request(letter, R=filled(spellings, MOST_SLOTS), I=number, note="255 spellings")
+            yield Request(letter, R=filled(twice, MOST_SLOTS), I=number, note="a spelling twice")
 
 
 def number_lengths():
@@ -67,13 +98,14 @@ def number_lengths():
 
 def number_bytes():
     """Every byte value first, in the middle and last, in a number given and in a slot."""
-    free = filled([], 1)
+    other = filled([b"4016"], 2)
     for value in range(256):
-        byte = bytes([value])
-        for number in (byte + b"AB", b"A" + byte + b"B", b"AB" + byte):
-            note = "byte %d in a number" % value
-            yield Request("p", R=free, I=number, note=note)
-            yield Request("l", R=slot_for(number), I=number, note=note)
+        note = "byte %d in a number" % value
+        for number in with_byte(bytes([value])):
+            for letter in "pl":
+                yield Request(letter, R=other, I=number, note=note)
+            for letter in "pln":
+                yield Request(letter, 2, R=filled([b"4016", number], 2), I=number, note=note)
 
 
 def register_lengths():
@@ -91,7 +123,7 @@ def register_lengths():
             yield Request(letter, 2, R=register, I=number, note="register of %d bytes" % length)
     # 1 comes before 3, 11 and 2.
     yield Request("p", R=bytes(31), I=b"", note="wrong length and bad number")
-    yield Request("l", R=b"\x07" * 33, I=b"a", note="wrong length, unsound, bad number")
+    yield Request("l", R=b"\x07" * 33, I=b"_", note="wrong length, unsound, bad number")
 
 
 def slot_contents():
@@ -111,7 +143,7 @@ def slot_contents():
             slot[position] = value
             yield Request("p", R=slot_for(b"741") + slot, I=b"4016",
                           note="byte %d of an unused slot" % position)
-    for number in (b"", b"a", b"741", b"7" * 25):
+    for number in (b"", b"_", b"741", b"7" * 25):
         for letter in "pl":
             yield Request(letter, R=b"\x03741" + bytes(27) + b"1", I=number,
                           note="not sound comes before a bad number")
@@ -154,7 +186,7 @@ def full_registers():
         yield Request("n", slots, R=full, note="the last place")
         yield Request("n", slots + 1, R=full, note="past the last place")
         yield Request("p", R=filled(numbers[:-1], slots), I=b"NEW", note="the last free slot")
-    yield Request("p", R=filled(many_numbers(3), 3), I=b"new", note="full register, bad number")
+    yield Request("p", R=filled(many_numbers(3), 3), I=b"NEW_", note="full register, bad number")
 
 
 def places():
@@ -175,9 +207,37 @@ def alike_numbers():
             for letter in "pl":
                 yield Request(letter, R=register, I=number, note="numbers that look alike")
     register = filled(ALIKE, len(ALIKE) + 1)
-    for number in ALIKE + [b"A" * 23, b"A" * 24, b"Z" * 22, b"741 ", b" 741", b"741\0", b"a"]:
+    for number in ALIKE + [b"A" * 23, b"A" * 24, b"Z" * 22, b"741 ", b" 741", b"741\0", b"A_"]:
         yield Request("l", R=register, I=number, note="numbers that look alike")
     yield Request("p", R=register, I=b"741A", note="numbers that look alike")
+
+
+def beside_letters():
+    """The bytes beside the letters, alone, and at both ends and in the middle of 24 bytes."""
+    for value in BESIDE_LETTERS:
+        byte, note = bytes([value]), "byte %02X beside the letters" % value
+        for number in (byte, byte + b"Z" * 23, b"a" * 12 + byte + b"A" * 11, b"z" * 23 + byte):
+            for letter in "pl":
+                yield Request(letter, R=filled([b"AZ", b"az"], 3), I=number, note=note)
+            for letter in "pln":
+                yield Request(letter, 1, R=slot_for(number), I=b"AZ", note=note)
+
+
+def case_pairs():
+    """Letters "are never folded": numbers that differ in case only are two parts."""
+    for one, other in chain(*map(permutations, CASE_PAIRS)):
+        note = "%s and %s" % (one.decode("ascii"), other.decode("ascii"))
+        both = filled([one, other], 3)
+        for letter in "pl":
+            yield Request(letter, R=filled([one], 2), I=other, note=note)
+            yield Request(letter, R=both, I=one, note=note)
+            yield Request(letter, R=both, I=other, note=note)
+        yield Request("p", R=slot_for(one), I=other, note=note + ", no free slot")
+        for place in (1, 2):
+            yield Request("n", place, R=both, note=note)
+        for letter in "pln":
+            yield Request(letter, 2, R=filled([one, other, one], 3), I=other,
+                          note=note + ", the first twice")
 
 
 def some_good_number(chance):
@@ -188,6 +248,18 @@ def some_good_number(chance):
     return bytes(chance.pick(NUMBER_BYTES) for _ in range(length))
 
 
+def some_numbers(chance, count):
+    """So many good numbers by chance, no two the same; now and then one in the other case too."""
+    numbers = []
+    while len(numbers) < count:
+        number = some_good_number(chance)
+        if numbers and chance.one_in(6):
+            number = chance.pick(numbers).swapcase()
+        if number not in numbers:
+            numbers.append(number)
+    return numbers
+
+
 def some_register(chance, used=None):
     """A sound register, often small, often full or nearly so."""
     slots = chance.pick((1, 2, 3, 4, 4, 5, 6, 8, chance.between(1, 40)))
@@ -195,12 +267,7 @@ def some_register(chance, used=None):
         slots = chance.pick((MOST_SLOTS, MOST_SLOTS - 1, chance.between(41, MOST_SLOTS)))
     if used is None:
         used = chance.pick((slots, slots, slots - 1, chance.between(0, slots)))
-    numbers = []
-    while len(numbers) < min(used, slots):
-        number = some_good_number(chance)
-        if number not in numbers:
-            numbers.append(number)
-    return filled(numbers, slots)
+    return filled(some_numbers(chance, min(used, slots)), slots)
 
 
 def damaged_register(chance, register):
@@ -237,7 +304,7 @@ def some_number(chance, numbers):
     if numbers and chance.below(8) < 4:
         return chance.pick(numbers)
     number = chance.pick(numbers) if numbers and chance.one_in(2) else some_good_number(chance)
-    way = chance.below(9)
+    way = chance.below(11)
     if way == 0:
         number = number[1:]
     elif way == 1:
@@ -251,6 +318,10 @@ def some_number(chance, numbers):
         number = number[:at] + bytes([chance.pick(EDGE_BYTES)]) + number[at + 1:]
     elif way == 5:
         number = number * chance.pick((0, 2, 11, 257))
+    elif way == 6:
+        number = number.swapcase()
+    elif way == 7:
+        number = number[:-1] + bytes([chance.pick(BESIDE_LETTERS)])
     return number
 
 

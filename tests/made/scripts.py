@@ -43,6 +43,61 @@ K 4 2
 W 0 34 4B495400010003053030373431033734310434303136000200090101010005010201
 """
 
+# Two parts whose numbers differ in case only, by request 3: each with a kit, found, listed, written
+# and struck out. The replies are worked out by hand for tables that are empty at first.
+SPELLINGS_INPUT = b"""\
+P 74ls00
+P 74LS00
+P 74ls00
+P 74LS00
+K 401 74ls00 1
+K 402 74LS00 1
+K 403 74ls00 1 74LS00 2
+K 404 74LS00 1 74ls00 1
+K 404 74Ls00 1
+F 74ls00 1
+F 74LS00 1
+B 74LS00 15
+S 74LS00 1
+b 74ls00 1
+b 74LS00 2
+s 74ls00 1
+s 74LS00 1
+W
+D 74ls00 1
+F 74ls00 1
+F 74LS00 1
+D 74LS00 1
+D 74ls00 1 74LS00 2
+W
+"""
+SPELLINGS_OUTPUT = b"""\
+P 0 1
+P 0 2
+P 9 1
+P 9 2
+K 0 1
+K 0 1
+K 0 2
+K 4 2
+K 11 0
+F 0 401
+F 0 402
+B 0 402
+S 0 403
+b 0 1 401
+b 0 1 402
+s 0 2 401 403
+s 0 2 403 402
+W 0 40 4B4954000100020637346C7330300637344C53303000030191010101019302010102020192010201
+D 0 401
+F 11 0
+F 0 402
+D 0 402
+D 0 403
+W 0 23 4B4954000100020637346C7330300637344C5330300000
+"""
+
 LETTERS = "".join(CALL_LETTERS)
 MILLION = 1_000_000
 
@@ -102,6 +157,8 @@ def fixed():
     yield "units and refusals in order", text(*units_and_order())
     yield "questions", text(*questions())
     yield "part numbers", text(*part_numbers())
+    yield "every byte first and in the middle", text(*every_byte(b"%sX", b"X%sX"), b"W")
+    yield "two spellings", SPELLINGS_INPUT
     yield "the last slot", text(*last_slot())
     yield "the last node", text(*last_node())
     for size in (SHEET_BYTES - 1, SHEET_BYTES, SHEET_BYTES + 1):
@@ -206,10 +263,10 @@ def lookups():
     yield from registering([b"A", b"B"])
     for letter in ("K 0", "K 1", *LIST_LETTERS):
         head = letter.encode("ascii")
-        for pairs in (b" C 1", b" c 1", b" C 1 c 1", b" c 1 C 1", b" A 1 C 1", b" A 0 C 1",
-                      b" B 1 A 1 C 1", b" A 1 A 1 c 1", b" A 99 B 0", b" A 16 C 0", b" B 1 A 1",
+        for pairs in (b" C 1", b" _ 1", b" C 1 _ 1", b" _ 1 C 1", b" A 1 C 1", b" A 0 C 1",
+                      b" B 1 A 1 C 1", b" A 1 A 1 _ 1", b" A 99 B 0", b" A 16 C 0", b" B 1 A 1",
                       b" A 1 A 1", b" A 0", b" A 16", b" A 15", b" " + b"A" * 24 + b" 1",
-                      b" " + b"A" * 25 + b" 1", b" C x", b" A 1 C", b""):
+                      b" " + b"A" * 25 + b" 1", b" C x", b" A 1 C", b"", b" a 1", b" A 1 b 1"):
             yield head + pairs
     yield b"W"
 
@@ -218,7 +275,7 @@ def forty_lines():
     """A list of forty lines, which is entered, and others with one or two of them at fault."""
     numbers = many_numbers(len(FORTY))
     yield from registering(numbers)
-    numbers += [b"NEW", b"new"]
+    numbers += [b"NEW", b"NEW_"]
     good = forty({})
     at_fault = [forty(changed) for changed in (*faults_in_forty(), *LOOKED_UP_IN_FORTY)]
     for lines in (good, *at_fault):
@@ -285,23 +342,28 @@ def questions():
 
 
 def part_numbers():
-    """Numbers of every length, alike numbers, and every byte."""
+    """Numbers of every length, alike numbers, and every byte as the last."""
     for length in (1, 2, 23, 24, 25, 26, 255, 256, 257, LONGEST_LINE - 2):
         yield b"P " + b"7" * length
     yield from registering(ALIKE)
     yield from registering(ALIKE)
-    for byte in range(256):
-        if byte != 10:
-            yield b"P X" + bytes([byte])
-            yield b"F X" + bytes([byte]) + b" 1"
+    yield from every_byte(b"X%s")
     yield b"W"
+
+
+def every_byte(*forms):
+    """Numbers of these forms with every byte but the line feed, each registered and looked up."""
+    for byte in range(256):
+        for number in [form % bytes([byte]) for form in forms if byte != 10]:
+            yield b"P " + number
+            yield b"B " + number + b" 1"
 
 
 def last_slot():
     """255 parts, a 256th, and a held one and a bad one in the full register."""
     numbers = many_numbers(SLOTS)
     yield from registering(numbers)
-    yield from registering([b"NEW", numbers[0], numbers[-1], b"new", b"NEW"])
+    yield from registering([b"NEW", numbers[0], numbers[-1], b"NEW_", b"new", b"NEW"])
     yield b"K 1 %s 15 %s 1" % (numbers[0], numbers[-1])
     yield b"K 2 NEW 1"
     yield b"s"
@@ -390,16 +452,16 @@ def many_kits():
 
 # Numbers that a script by chance uses, and now and then one against the rule.
 GOOD_NUMBERS = [b"A", b"B", b"C", b"AA", b"00741", b"0741", b"741", b"4016", b"1", b"0", b"2",
-                b"X-1", b"X.1", b"X/1", b"Z" * 24]
-BAD_NUMBERS = [b"a", b"A_", b"Z" * 25, b"A\0", b"\xc4"]
+                b"X-1", b"X.1", b"X/1", b"Z" * 24, b"a", b"aA", b"x-1", b"z" * 24]
+BAD_NUMBERS = [b"`", b"a{", b"A_", b"Z" * 25, b"A\0", b"\xc4"]
 
 
 def stored():
     """The one script that is stored: the document's example, then limits one behind another."""
     return EXAMPLE_INPUT + text(
         *questions(), *line_lengths(), *stray_bytes(), *field_counts(), *tags_and_quantities(),
-        *lookups(), *units_and_order(), *part_numbers(), *last_node(), *last_slot()
-    ) + long_line(1025)
+        *lookups(), *units_and_order()
+    ) + SPELLINGS_INPUT + text(*part_numbers(), *last_node(), *last_slot()) + long_line(1025)
 
 
 def by_chance(chance):

@@ -9,7 +9,8 @@ from second.lent import Request
 from second.nodes import MOST_NODES, NODE_WORDS
 from second.register import LONGEST_NUMBER, MOST_SLOTS, SLOT_BYTES, filled, numbers_of
 
-from .register_requests import EDGE_BYTES, many_numbers
+from .register_requests import (
+    BESIDE_LETTERS, CASE_PAIRS, EDGE_BYTES, many_numbers, many_spellings, with_byte)
 from .tables import (
     LARGE_KINDS, Stock, damaged_table, large_table, parts_register, some_tables, table)
 
@@ -54,6 +55,7 @@ def limits():
     yield from written_rooms()
     yield from torn_sheets()
     yield from item_faults()
+    yield from number_faults()
     yield from record_faults()
     yield from many_lines(64, 64)
     yield from many_lines(65, 64, 65)
@@ -73,6 +75,7 @@ def written_rooms():
         ("empty", filled([], 1), [0] * NODE_WORDS),
         ("the empty kit", filled([], 2), table(1, ((), 65535))),
         ("parts alone", filled(THREE, 4), [0] * 12),
+        ("two spellings", filled([b"74ls00", b"74LS00"], 2), table(3, ((2,), 5), ((1,), 9))),
         ("printed", filled(THREE, 4), table(5, ((2,), 5), ((1,), 9))),
         ("long numbers", filled([b"A" * LONGEST_NUMBER, b"B"], 2), table(2, ((2,), 256))),
         ("longest kit", filled(FIVE, 5), table(65, ((1,) * 15 + (2,) * 15 + (3,) * 15 + (4,) * 15
@@ -109,9 +112,9 @@ def item_faults():
         yield reading(sheet_of(THREE, THREE_KITS, kits=kits), note="kit count %d of 3" % kits)
     rows = [
         [b""], [b"A", b""], [b"A" * 23], [b"A" * 24], [b"A" * 25], [b"A" * 255], [b"A", b"A"],
-        [b"A", b"B", b"A"], [b"00741", b"0741", b"741"], [b"74", b"741", b"7410"], [b"a"],
-        [b"A B"], [b"A", b"B\0"], [b"-./"], [b"A:"], [b"A", b"\xc3\x9f"], [b"A", b"B", b"B", b"a"],
-        [b"A", b"a", b"A"], [b"A\n"],
+        [b"A", b"B", b"A"], [b"00741", b"0741", b"741"], [b"74", b"741", b"7410"], [b"_"],
+        [b"A B"], [b"A", b"B\0"], [b"-./"], [b"A:"], [b"A", b"\xc3\x9f"], [b"A", b"B", b"B", b"_"],
+        [b"A", b"_", b"A"], [b"A\n"], [b"a"], [b"A", b"a", b"A"], [b"A", b"a", b"B", b"_"],
     ]
     for row in rows:
         yield reading(sheet_of(row, []), note="numbers %s" % row)
@@ -121,6 +124,18 @@ def item_faults():
     yield reading(sheet_of([], [], parts=1)[:-2] + b"\x03741", note="kit count cut short")
     yield reading(sheet_of([], [], parts=1)[:-2] + b"\x03741\0", note="kit count cut short")
     yield reading(sheet_of([], [], parts=1)[:-2] + b"\x19" + b"7" * 23, note="25 and cut short")
+
+
+def number_faults():
+    """Numbers with a byte beside the letters; numbers that differ in case only, and one twice."""
+    for value in BESIDE_LETTERS:
+        for number in with_byte(bytes([value])):
+            yield reading(sheet_of([b"AZ", b"az", number], [ONE_KIT]),
+                          note="byte %02X beside the letters" % value)
+    for one, other in CASE_PAIRS:
+        for row in ([one, other], [other, one], [one, other, one]):
+            yield reading(sheet_of(row, [record(9, (1, 1)), record(5, (2, 1))]),
+                          note="numbers %s and two kits" % row)
 
 
 ONE_KIT = record(1, (1, 1))
@@ -290,6 +305,9 @@ def large():
         for slots in (MOST_SLOTS - 1, MOST_SLOTS):
             yield reading(sheet_of(many_numbers(parts), [record(1, (254, 1))]), slots, 2,
                           "%d parts into %d slots" % (parts, slots))
+    *spellings, another = many_spellings(MOST_SLOTS + 1)
+    for row in (spellings, [*spellings[1:], another], [*spellings[1:], spellings[1]]):
+        yield reading(sheet_of(row, [record(1, (254, 1))]), MOST_SLOTS, 2, "255 spellings")
     for length in (MOST_NODES * NODE_WORDS + 1, (MOST_NODES + 1) * NODE_WORDS):
         yield Request("r", R=bytes(32), N=[0] * length, I=sheet_of([], []),
                       note="%d words" % length)

@@ -22,14 +22,15 @@ from .tables import some_new_tag, some_row
 LONGEST_WAY = 2000
 
 # Numbers that are against the rule.
-BAD_NUMBERS = [b"", b"a", b"A B", b"7" * 25, b"741\n", b"\0", b"A:"]
+BAD_NUMBERS = [b"", b"_", b"A B", b"7" * 25, b"741\n", b"\0", b"A:"]
 
 
 def some_number(chance, numbers):
     """A good number that is not among these; numbers that look alike come often."""
     while True:
         number = chance.pick((chance.pick(ALIKE), b"%d" % chance.below(10000),
-                              b"N/%03d-%d" % (chance.below(999), chance.below(9))))
+                              b"%c/%03d-%d" % (chance.pick(b"Nn"), chance.below(999),
+                                               chance.below(9))))
         if number not in numbers:
             return number
 
@@ -57,7 +58,7 @@ def one_thing_changed(chance, contents):
     """The contents with one thing changed: a tag, a kit, two parts' order, a number, a part."""
     changes = [with_part_more]
     if contents.numbers:
-        changes += [with_number_changed, with_kit_more]
+        changes += [with_number_changed, with_case_changed, with_kit_more]
     if len(contents.numbers) > 1:
         changes += [with_parts_swapped, with_parts_swapped_in_kits]
     if contents.kits:
@@ -80,6 +81,14 @@ def with_number_changed(chance, contents):
     """One part under another number."""
     at = chance.below(len(contents.numbers))
     contents.numbers[at] = some_number(chance, contents.numbers)
+
+
+def with_case_changed(chance, contents):
+    """One part's number in the other case, where it has a letter and no part bears that number."""
+    at = chance.below(len(contents.numbers))
+    number = contents.numbers[at].swapcase()
+    if number not in contents.numbers:
+        contents.numbers[at] = number
 
 
 def with_parts_swapped(chance, contents):

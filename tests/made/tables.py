@@ -8,7 +8,7 @@ from second.nodes import FREE, MOST_NODES, NODE_WORDS, ROOT, Node
 from second.register import MOST_SLOTS, filled, numbers_of
 
 from .chance import Chance
-from .register_requests import damaged_register, many_numbers
+from .register_requests import damaged_register, many_numbers, some_numbers
 
 # Values that a damaged word is often given: limits of depth, quantity, parts and words.
 EDGE_WORDS = [0, 1, 2, 3, 14, 15, 16, 17, 63, 64, 65, 255, 256, 32767, 32768, 65534, 65535]
@@ -137,7 +137,7 @@ class Stock:
         parts = chance.pick((0, 1, 2, 2, 3, 3, 3, 4, 5, 6, 6, 9))
         slots = max(1, parts + chance.pick((0, 0, 1, 3)))
         node_count = chance.pick((1, 2, 3, 5, 8, 12, 12, 16, 20, 30, 40, 70))
-        return parts_register(parts, slots), [0] * node_count * NODE_WORDS
+        return filled(some_numbers(chance, parts), slots), [0] * node_count * NODE_WORDS
 
     def catalogue(self):
         """One of the catalogues, brought on by a step: its register, table and kits."""

@@ -3,7 +3,7 @@
 Each takes a request and its right answer, and gives the ways by name with whether this was one.
 """
 
-from second import index, register
+from second import index, register, sheet
 from second.calls import MOST_SHORT
 from second.kits import LEAST_QUANTITY, MOST_QUANTITY, MOST_UNITS, first_fault
 from second.nodes import MOST_NODES, NODE_WORDS
@@ -12,6 +12,7 @@ from second.refusals import (
     SHEET_AT_FAULT, TAG_ZERO, TOO_FAR_SHORT, TOO_MANY_UNITS, WRONG_LENGTH)
 from second.register import LONGEST_NUMBER, SLOT_BYTES
 
+from .register_requests import BESIDE_LETTERS
 from .sheet_requests import PRINTED_SHEET
 
 # What is wrong with a list.
@@ -19,6 +20,14 @@ LIST = {BAD_ORDER, BEYOND_PARTS, BAD_QUANTITY}
 
 # The printed sheet must be cut at every byte.
 CUT_SHORT = "the printed sheet cut short"
+
+# Good and bad numbers around the letters, given to a call or on a sheet.
+SMALL_LETTER = "a number with a small letter"
+BESIDE = "a number with byte %02X"
+IN_CASE_ONLY = "two parts that differ in case only"
+
+# Where the part count of a sheet stands, behind the mark and the version.
+PART_COUNT_AT = len(sheet.MARK) + sheet.TWO_BYTES
 
 
 def tables_lent(asked, came):
@@ -58,6 +67,39 @@ def number_given(asked, came):
         "a number of 24 bytes": came.done() and length == LONGEST_NUMBER,
         "a number of 25 bytes": bad and length == LONGEST_NUMBER + 1,
     }
+
+
+def has_small_letter(number):
+    """Whether a small letter is in a number."""
+    return number != number.upper()
+
+
+def beside_letters(number):
+    """Each byte beside the letters, with whether it alone puts this number against the rule."""
+    return {BESIDE % byte: byte in number and register.good_number(
+        number.replace(bytes([byte]), b"A")) for byte in BESIDE_LETTERS}
+
+
+def other_spellings(number, numbers):
+    """Those of the numbers that differ from this one in case only."""
+    return [other for other in numbers if other != number and other.lower() == number.lower()]
+
+
+def letters_given(asked, came):
+    """Numbers with small letters, with a byte beside the letters, and parts of two spellings."""
+    number = asked.blocks["I"]
+    return {
+        SMALL_LETTER: came.done() and has_small_letter(number),
+        IN_CASE_ONLY: came.done() and other_spellings(
+            number, register.numbers_of(came.blocks["R"])),
+        **beside_letters(number if came.number == BAD_NUMBER else b""),
+    }
+
+
+def looked_up(asked, came):
+    """A number that is not held, while another spelling is."""
+    return {"another spelling alone is held": came.number == NOT_HELD and other_spellings(
+        asked.blocks["I"], register.numbers_of(asked.blocks["R"]))}
 
 
 def registered(_, came):
@@ -201,14 +243,37 @@ def sheet_read(asked, came):
     }
 
 
+def number_at_fault(data, offset):
+    """The number at which this sheet is at fault, or nothing where the fault is another item."""
+    items = sheet.Items(data)
+    items.at = PART_COUNT_AT
+    try:
+        sheet.read_numbers(items)
+    except sheet.SheetFault as fault:
+        return data[offset + 1:items.at] if fault.offset == offset > PART_COUNT_AT else b""
+    return b""
+
+
+def letters_read(asked, came):
+    """Small letters, bytes beside the letters, and parts of two spellings on one sheet."""
+    numbers = register.numbers_of(came.blocks["R"]) if came.done() else []
+    return {
+        SMALL_LETTER: any(map(has_small_letter, numbers)),
+        IN_CASE_ONLY: len({number.lower() for number in numbers}) < len(numbers),
+        **beside_letters(number_at_fault(asked.blocks["I"], came.value)
+                         if came.number == SHEET_AT_FAULT else b""),
+    }
+
+
 # The limits of documents 01 and 02, as ways of each call.
 LIMITS = {
-    "e": [emptied], "p": [number_given, registered], "l": [number_given], "n": [place_given],
+    "e": [emptied], "p": [number_given, letters_given, registered],
+    "l": [number_given, letters_given, looked_up], "n": [place_given],
     "k": [tables_lent, list_given, entered], "f": [tables_lent, list_given],
     "d": [tables_lent, list_given, struck_out], "w": [tables_lent, list_given, first_found],
     "c": [tables_lent, list_given, first_found], "W": [tables_lent, list_given, output_into("P")],
     "C": [tables_lent, list_given, output_into("P")], "a": [tables_lent, list_given, almost_filled],
-    "s": [tables_lent, output_into("O")], "r": [sheet_read],
+    "s": [tables_lent, output_into("O")], "r": [sheet_read, letters_read],
 }
 # Those that take large requests too, each of the calls that have the way beside it.
 LARGE = {tables_lent: largest_lent, list_given: line_at_fault}

@@ -1,14 +1,16 @@
-"""Part numbers and the register, as document 01's section of that name defines them."""
+"""Part numbers and the register, as document 01's section of that name and request 3 say."""
 
 from functools import lru_cache
 
 # "A part number is 1 to 24 bytes, each a digit, a capital A to Z, hyphen, full stop or slash."
+# Request 3: "The letters a to z join the allowed bytes and are never folded."
 SHORTEST_NUMBER = 1
 LONGEST_NUMBER = 24
 DIGITS = b"0123456789"
 CAPITALS = b"ABCDEFGHIJKLMNOPQRSTUVWXYZ"
+SMALL_LETTERS = b"abcdefghijklmnopqrstuvwxyz"
 PUNCTUATION = b"-./"
-NUMBER_BYTES = DIGITS + CAPITALS + PUNCTUATION
+NUMBER_BYTES = DIGITS + CAPITALS + SMALL_LETTERS + PUNCTUATION
 
 # "The register is lent bytes, 32 per part .. (1 to 255 parts)."
 SLOT_BYTES = 32
