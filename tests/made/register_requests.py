@@ -26,7 +26,7 @@ BESIDE_LETTERS = b"@[`{"
 # Numbers that differ in case only.
 CASE_PAIRS = [
     (b"74ls00", b"74LS00"), (b"74LS00", b"74Ls00"), (b"a", b"A"), (b"-z/1", b"-Z/1"),
-    (b"z" * 24, b"Z" * 24), (b"Z" * 23 + b"z", b"Z" * 24),
+    (b"z-/1", b"Z-/1"), (b"z" * 24, b"Z" * 24), (b"Z" * 23 + b"z", b"Z" * 24),
 ]
 
 PLACES = [0, 1, 2, 3, 4, 254, 255, 256, 257, 258, 511, 512, 2048, 32767, 32768, 65535]

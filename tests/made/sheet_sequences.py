@@ -9,7 +9,7 @@ from second.calls import MOST_SHORT
 from second.kits import MOST_UNITS, lines_of, listing_order, words_of
 from second.nodes import NODE_WORDS
 from second.refusals import DONE
-from second.register import MOST_SLOTS, SLOT_BYTES
+from second.register import MOST_SLOTS, SLOT_BYTES, punctuation_at_end
 
 from .almost_requests import some_question
 from .carried import Catalogue, Contents, empty_catalogue, expect
@@ -251,10 +251,23 @@ class Walk:
                     kits[row] = tag
         return Contents(self.aim.numbers[:parts], kits)
 
+    def next_part(self):
+        """The call that brings in the aim's next part, if one is missing.
+
+        Registration refuses a number with punctuation at an end: a sheet of all that is held and
+        of this part brings it in.
+        """
+        numbers = self.aim.numbers[:self.parts() + 1]
+        if len(numbers) == self.parts():
+            return []
+        if punctuation_at_end(numbers[-1]):
+            return [("r", 0, {"I": Contents(numbers, self.contents().kits).sheet()})]
+        return [("p", 0, {"I": numbers[-1]})]
+
     def useful_calls(self):
         """The calls that lead to the aim from here, as letter, argument and blocks."""
         held, wanted = self.contents().kits, self.aim.kits
-        useful = [("p", 0, {"I": number}) for number in self.aim.numbers[self.parts():][:1]]
+        useful = self.next_part()
         for row, tag in sorted(held.items()):
             if wanted.get(row) != tag:
                 useful.append(("d", 0, {"L": words_of(lines_of(row))}))
