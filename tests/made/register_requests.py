@@ -5,8 +5,8 @@ from itertools import chain, permutations
 from run.frame import ROOM
 from second.lent import Request
 from second.register import (
-    LONGEST_NUMBER, MOST_SLOTS, NUMBER_BYTES, SLOT_BYTES, filled, numbers_of, right_length,
-    slot_for, sound)
+    LONGEST_NUMBER, MOST_SLOTS, NUMBER_BYTES, PUNCTUATION, SLOT_BYTES, filled, numbers_of,
+    right_length, slot_for, sound)
 
 # Numbers that an integer, a trimming, a folding or a short comparison would take for each other.
 ALIKE = [
@@ -29,6 +29,14 @@ CASE_PAIRS = [
     (b"z-/1", b"Z-/1"), (b"z" * 24, b"Z" * 24), (b"Z" * 23 + b"z", b"Z" * 24),
 ]
 
+# Numbers with _ in place of a hyphen, full stop or slash: at an end, as a torn label has it; inside
+# alone; and at an end of what is against the rule as well.
+AT_END = [b"_", b"__", b"_1", b"1_", b"_4016", b"CD4016_", b"_CD4016_", b"_" + b"7" * 23,
+          b"z" * 23 + b"_", b"_" + b"Z" * 22 + b"_"]
+INSIDE = [b"CD_4016", b"C_4016", b"401_6", b"1_1", b"1__1", b"7_" + b"7" * 22, b"Z" * 22 + b"_Z"]
+BAD_AT_END = [b"_ ", b" _", b"_40 16", b"CD40 16_", b"_CD:4016_", b"_" + b"7" * 24,
+              b"7" * 24 + b"_"]
+
 PLACES = [0, 1, 2, 3, 4, 254, 255, 256, 257, 258, 511, 512, 2048, 32767, 32768, 65535]
 
 
@@ -41,6 +49,11 @@ def many_spellings(count):
     """So many numbers, at most 256, no two the same, that differ in case only."""
     return [bytes(letter - 32 * (at >> bit & 1) for bit, letter in enumerate(b"abcdefgh"))
             for at in range(count)]
+
+
+def punctuated(forms):
+    """These numbers with each of the three bytes in place of _."""
+    return [form.replace(b"_", bytes([byte])) for form in forms for byte in PUNCTUATION]
 
 
 def with_byte(byte):
