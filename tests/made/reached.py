@@ -183,6 +183,7 @@ TOOK_LAST_NODE = "insertions took the last free node"
 LACKED_ONE_NODE = "insertions lacked one node"
 ENTERED_AGAIN = "kits struck out were entered again"
 ALMOST_FILLED = "listings had kits almost filled"
+BROUGHT_IN = "numbers that sheets alone bring in were registered and looked up"
 ENDED_ALIKE = "pairs ended alike"
 ENDED_APART = "pairs ended apart"
 SEQUENCES = "sequences"
@@ -191,7 +192,7 @@ SEQUENCES = "sequences"
 def sequences_reached():
     """What sequences of calls come to."""
     numbers = {letter: row - {WRONG_LENGTH, NOT_SOUND} for letter, row in NUMBERS.items()}
-    turns = {TOOK_LAST_NODE, LACKED_ONE_NODE, ENTERED_AGAIN, ALMOST_FILLED, ENDED_ALIKE,
+    turns = {TOOK_LAST_NODE, LACKED_ONE_NODE, ENTERED_AGAIN, ALMOST_FILLED, BROUGHT_IN, ENDED_ALIKE,
              ENDED_APART}
     return Reached(answers(numbers) | {(SEQUENCES, turn) for turn in turns})
 

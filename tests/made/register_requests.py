@@ -13,7 +13,7 @@ ALIKE = [
     b"00741", b"0741", b"741", b"7410", b"74", b"7", b"0", b"00", b"A", b"AA", b"A-", b"-A",
     b"A.", b"A/", b".", b"/", b"-", b"4016", b"LM741", b"1E3", b"0X1", b"Z" * 23, b"Z" * 24,
     b"Z" * 23 + b"A", b"A" + b"Z" * 23, b"74LS00", b"74ls00", b"74Ls00", b"a", b"aA", b"lm741",
-    b"1e3", b"0x1", b"z" * 24, b"Z" * 23 + b"z",
+    b"1e3", b"0x1", b"z" * 24, b"Z" * 23 + b"z", b".A", b"/A", b"Z" * 23 + b"-",
 ]
 
 # Bytes at the edges of the allowed stretches, and a few that readers often treat apart.
