@@ -60,6 +60,7 @@ def compare(command, options):
     comparison = Comparison(command, options.seed)
     comparison.play("fixed", index_sequences.fixed)
     comparison.play("4,096 nodes", index_sequences.full_table)
+    comparison.play("a torn label", sheet_sequences.torn_label)
     for turn in range(options.sequences):
         by_chance(comparison, *divmod(turn, 2))
     return verdict("sequences", comparison.reached, "%d sequences, %d calls" % (

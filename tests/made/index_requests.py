@@ -109,8 +109,9 @@ def on_two_parts(letter, register, note):
 
 
 def spelled_parts():
-    """Parts whose numbers differ in case only, and one of them twice."""
-    for numbers in ([b"74ls00", b"74LS00"], [b"74ls00", b"74LS00", b"74ls00"]):
+    """Parts whose numbers differ in case only, one of them twice, and punctuation at an end."""
+    for numbers in ([b"74ls00", b"74LS00"], [b"74ls00", b"74LS00", b"74ls00"],
+                    [b"CD4016-", b".4016", b"/"]):
         for letter in TABLE_LETTERS:
             yield on_two_parts(letter, filled(numbers, 3), "parts %s" % numbers)
 

@@ -13,7 +13,8 @@ from second.desk import (
 from second.lent import Answer, Request
 from second.refusals import (
     ALREADY_HELD, BAD_NUMBER, BAD_ORDER, BAD_QUANTITY, DONE, NO_ROOM, NOT_HELD, NOT_SOUND,
-    SHEET_AT_FAULT, TAG_TAKEN, TAG_ZERO, TOO_FAR_SHORT, TOO_MANY_UNITS, WRONG_LENGTH)
+    PUNCTUATION_AT_END, SHEET_AT_FAULT, TAG_TAKEN, TAG_ZERO, TOO_FAR_SHORT, TOO_MANY_UNITS,
+    WRONG_LENGTH)
 
 from .sheet_requests import PRINTED_SHEET
 from .ways import ALL_WAYS, CUT_SHORT, LEFT_TO_LIMITS, LIST, sheet_read
@@ -72,7 +73,7 @@ def in_order(line):
 TABLES = {DONE, WRONG_LENGTH, NOT_SOUND}
 NUMBERS = {
     "e": {DONE, WRONG_LENGTH},
-    "p": TABLES | {BAD_NUMBER, ALREADY_HELD, NO_ROOM},
+    "p": TABLES | {BAD_NUMBER, PUNCTUATION_AT_END, ALREADY_HELD, NO_ROOM},
     "l": TABLES | {BAD_NUMBER, NOT_HELD},
     "n": TABLES | {NOT_HELD},
     "k": TABLES | LIST | {TOO_MANY_UNITS, TAG_ZERO, ALREADY_HELD, TAG_TAKEN, NO_ROOM},
@@ -182,6 +183,7 @@ TOOK_LAST_NODE = "insertions took the last free node"
 LACKED_ONE_NODE = "insertions lacked one node"
 ENTERED_AGAIN = "kits struck out were entered again"
 ALMOST_FILLED = "listings had kits almost filled"
+BROUGHT_IN = "numbers that sheets alone bring in were registered and looked up"
 ENDED_ALIKE = "pairs ended alike"
 ENDED_APART = "pairs ended apart"
 SEQUENCES = "sequences"
@@ -190,7 +192,7 @@ SEQUENCES = "sequences"
 def sequences_reached():
     """What sequences of calls come to."""
     numbers = {letter: row - {WRONG_LENGTH, NOT_SOUND} for letter, row in NUMBERS.items()}
-    turns = {TOOK_LAST_NODE, LACKED_ONE_NODE, ENTERED_AGAIN, ALMOST_FILLED, ENDED_ALIKE,
+    turns = {TOOK_LAST_NODE, LACKED_ONE_NODE, ENTERED_AGAIN, ALMOST_FILLED, BROUGHT_IN, ENDED_ALIKE,
              ENDED_APART}
     return Reached(answers(numbers) | {(SEQUENCES, turn) for turn in turns})
 
@@ -199,7 +201,7 @@ def sequences_reached():
 
 LOOKED_UP = {BAD_NUMBER, NOT_HELD}
 DESK_NUMBERS = {
-    "P": {DONE, BAD_NUMBER, ALREADY_HELD, NO_ROOM},
+    "P": {DONE, BAD_NUMBER, PUNCTUATION_AT_END, ALREADY_HELD, NO_ROOM},
     "K": {DONE, TOO_MANY_UNITS, TAG_ZERO, ALREADY_HELD, TAG_TAKEN, NO_ROOM,
           BAD_ORDER, BAD_QUANTITY} | LOOKED_UP,
     **{letter: {DONE, BAD_ORDER, BAD_QUANTITY} | LOOKED_UP for letter in LIST_LETTERS},

@@ -1,19 +1,19 @@
 """Requests that try the register's calls: fixed ones at every limit, and ones by chance."""
 
-from itertools import chain, permutations
+from itertools import chain, permutations, product
 
 from run.frame import ROOM
 from second.lent import Request
 from second.register import (
-    LONGEST_NUMBER, MOST_SLOTS, NUMBER_BYTES, SLOT_BYTES, filled, numbers_of, right_length,
-    slot_for, sound)
+    LONGEST_NUMBER, MOST_SLOTS, NUMBER_BYTES, PUNCTUATION, SLOT_BYTES, filled, numbers_of,
+    right_length, slot_for, sound)
 
 # Numbers that an integer, a trimming, a folding or a short comparison would take for each other.
 ALIKE = [
     b"00741", b"0741", b"741", b"7410", b"74", b"7", b"0", b"00", b"A", b"AA", b"A-", b"-A",
     b"A.", b"A/", b".", b"/", b"-", b"4016", b"LM741", b"1E3", b"0X1", b"Z" * 23, b"Z" * 24,
     b"Z" * 23 + b"A", b"A" + b"Z" * 23, b"74LS00", b"74ls00", b"74Ls00", b"a", b"aA", b"lm741",
-    b"1e3", b"0x1", b"z" * 24, b"Z" * 23 + b"z",
+    b"1e3", b"0x1", b"z" * 24, b"Z" * 23 + b"z", b".A", b"/A", b"Z" * 23 + b"-",
 ]
 
 # Bytes at the edges of the allowed stretches, and a few that readers often treat apart.
@@ -26,8 +26,16 @@ BESIDE_LETTERS = b"@[`{"
 # Numbers that differ in case only.
 CASE_PAIRS = [
     (b"74ls00", b"74LS00"), (b"74LS00", b"74Ls00"), (b"a", b"A"), (b"-z/1", b"-Z/1"),
-    (b"z" * 24, b"Z" * 24), (b"Z" * 23 + b"z", b"Z" * 24),
+    (b"z-/1", b"Z-/1"), (b"z" * 24, b"Z" * 24), (b"Z" * 23 + b"z", b"Z" * 24),
 ]
+
+# Numbers with _ in place of a hyphen, full stop or slash: at an end, as a torn label has it; inside
+# alone; and at an end of what is against the rule as well.
+AT_END = [b"_", b"__", b"_1", b"1_", b"_4016", b"CD4016_", b"_CD4016_", b"_" + b"7" * 23,
+          b"z" * 23 + b"_", b"_" + b"Z" * 22 + b"_"]
+INSIDE = [b"CD_4016", b"C_4016", b"401_6", b"1_1", b"1__1", b"7_" + b"7" * 22, b"Z" * 22 + b"_Z"]
+BAD_AT_END = [b"_ ", b" _", b"_40 16", b"CD40 16_", b"_CD:4016_", b"_" + b"7" * 24,
+              b"7" * 24 + b"_"]
 
 PLACES = [0, 1, 2, 3, 4, 254, 255, 256, 257, 258, 511, 512, 2048, 32767, 32768, 65535]
 
@@ -41,6 +49,16 @@ def many_spellings(count):
     """So many numbers, at most 256, no two the same, that differ in case only."""
     return [bytes(letter - 32 * (at >> bit & 1) for bit, letter in enumerate(b"abcdefgh"))
             for at in range(count)]
+
+
+def torn_labels(count):
+    """So many numbers, no two the same, each "with a hyphen at its end"."""
+    return [number + b"-" for number in many_numbers(count)]
+
+
+def punctuated(forms):
+    """These numbers with each of the three bytes in place of _."""
+    return [form.replace(b"_", bytes([byte])) for form in forms for byte in PUNCTUATION]
 
 
 def with_byte(byte):
@@ -58,6 +76,8 @@ def limits():
     yield from alike_numbers()
     yield from beside_letters()
     yield from case_pairs()
+    yield from ends_of_numbers()
+    yield from held_ends()
 
 
 def sweeps():
@@ -67,7 +87,7 @@ def sweeps():
 
 
 def large():
-    """Registers and numbers as large as the probe has room for; 255 spellings of one word."""
+    """Registers and numbers as large as the probe has room for; 255 spellings, 255 torn labels."""
     yield Request("p", R=bytes(SLOT_BYTES), I=b"7" * ROOM["I"], note="a number of 65,536 bytes")
     yield Request("l", R=slot_for(b"7"), I=b"7" * ROOM["I"], note="a number of 65,536 bytes")
     for letter in "pln":
@@ -80,6 +100,9 @@ def large():
         for letter in "pl":
             yield Request(letter, R=filled(spellings, MOST_SLOTS), I=number, note="255 spellings")
             yield Request(letter, R=filled(twice, MOST_SLOTS), I=number, note="a spelling twice")
+    torn = torn_labels(MOST_SLOTS)
+    for letter, number in product("pl", (torn[0], torn[-1], b"00000", b"NEW-")):
+        yield Request(letter, R=filled(torn, MOST_SLOTS), I=number, note="255 torn labels")
 
 
 def number_lengths():
@@ -176,11 +199,12 @@ def slots_together():
 
 
 def full_registers():
-    """The last free slot, and a full register with a new number (12) and a held one (9)."""
+    """The last free slot; a full register with a number that is new (12), held (9) or torn (16)."""
     for slots in (1, 3, MOST_SLOTS):
         numbers = many_numbers(slots)
         full = filled(numbers, slots)
         yield Request("p", R=full, I=b"NEW", note="full register, new number")
+        yield Request("p", R=full, I=b"NEW-", note="full register, torn number")
         yield Request("p", R=full, I=numbers[-1], note="full register, held number")
         yield Request("l", R=full, I=numbers[-1], note="the last number")
         yield Request("n", slots, R=full, note="the last place")
@@ -238,6 +262,34 @@ def case_pairs():
         for letter in "pln":
             yield Request(letter, 2, R=filled([one, other, one], 3), I=other,
                           note=note + ", the first twice")
+
+
+def ends_of_numbers():
+    """Punctuation at an end of a number and inside it, with a free slot and with none."""
+    for form in AT_END + INSIDE + BAD_AT_END:
+        note = "number %s" % form.decode("ascii")
+        for letter, number in product("pl", punctuated([form])):
+            yield Request(letter, R=filled([b"4016"], 2), I=number, note=note)
+            yield Request(letter, R=slot_for(b"4016"), I=number, note=note + ", no free slot")
+    yield Request("p", R=bytes(31), I=b"CD4016-", note="wrong length, torn number")
+    yield Request("p", R=filled([b"4016"] * 2, 3), I=b"CD4016-", note="not sound, torn number")
+
+
+def held_ends():
+    """The same numbers where they are held: 16 comes before 9, and they are found and shown.
+
+    With and without the punctuation at its ends a number is two parts: "Nothing is trimmed".
+    """
+    for form in AT_END + INSIDE:
+        note = "held %s" % form.decode("ascii")
+        for number in punctuated([form]):
+            for letter, slots in product("pln", (2, 3)):
+                yield Request(letter, 2, R=filled([b"4016", number], slots), I=number, note=note)
+            trimmed = number.strip(PUNCTUATION)
+            if trimmed in (b"", number):
+                continue
+            for letter, (held, asked) in product("pl", permutations((number, trimmed))):
+                yield Request(letter, R=filled([held], 2), I=asked, note=note + ", trimmed")
 
 
 def some_good_number(chance):
@@ -304,7 +356,7 @@ def some_number(chance, numbers):
     if numbers and chance.below(8) < 4:
         return chance.pick(numbers)
     number = chance.pick(numbers) if numbers and chance.one_in(2) else some_good_number(chance)
-    way = chance.below(11)
+    way = chance.below(13)
     if way == 0:
         number = number[1:]
     elif way == 1:
@@ -322,6 +374,10 @@ def some_number(chance, numbers):
         number = number.swapcase()
     elif way == 7:
         number = number[:-1] + bytes([chance.pick(BESIDE_LETTERS)])
+    elif way == 8:
+        number = number[:-1] + bytes([chance.pick(PUNCTUATION)])
+    elif way == 9:
+        number = bytes([chance.pick(PUNCTUATION)]) + number[1:]
     return number
 
 

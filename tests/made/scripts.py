@@ -5,7 +5,7 @@ from second.desk import (
 from second.kits import MOST_UNITS, lines_of
 from second.register import LONGEST_NUMBER
 
-from .register_requests import ALIKE, EDGE_BYTES, many_numbers
+from .register_requests import ALIKE, EDGE_BYTES, many_numbers, punctuated
 
 # Document 01's example, with the last K reply of request 2: "becomes `K 4 2`".
 EXAMPLE_INPUT = b"""\
@@ -98,6 +98,78 @@ D 0 403
 W 0 23 4B4954000100020637346C7330300637344C5330300000
 """
 
+# Request 6: "A torn label gave us a number with a hyphen at its end, and nobody could find the
+# part." Then each of the three bytes first, last, alone and inside. The replies are worked out by
+# hand for tables that are empty at first.
+TORN_LABEL_INPUT = b"""\
+P CD4016-
+P CD4016
+P CD4016-
+F CD4016- 1
+F CD4016 1
+K 501 CD4016 1
+K 502 CD4016- 1
+F CD4016 1
+P -4016
+P .4016
+P /4016
+P 4016-
+P 4016.
+P 4016/
+P -
+P .
+P /
+P -4016/
+P CD-4016
+P CD.4016
+P CD/4016
+P CD-4016
+P CD:4016-
+K 502 CD-4016 1 CD/4016 2
+B CD-4016 1 CD.4016 1 CD/4016 2
+S CD/4016 1
+b -4016 1
+W
+D CD4016 1
+D CD-4016 1 CD/4016 2
+W
+"""
+TORN_LABEL_OUTPUT = b"""\
+P 16 0
+P 0 1
+P 16 0
+F 11 0
+F 11 0
+K 0 1
+K 11 0
+F 0 501
+P 16 0
+P 16 0
+P 16 0
+P 16 0
+P 16 0
+P 16 0
+P 16 0
+P 16 0
+P 16 0
+P 16 0
+P 0 2
+P 0 3
+P 0 4
+P 9 2
+P 3 0
+K 0 3
+B 0 502
+S 0 502
+b 11 0
+W 0 52 4B4954000100040643443430313607\
+43442D343031360743442E343031360743442F34303136000201F501010101F60202010402
+D 0 501
+D 0 502
+W 0 40 4B4954000100040643443430313607\
+43442D343031360743442E343031360743442F343031360000
+"""
+
 LETTERS = "".join(CALL_LETTERS)
 MILLION = 1_000_000
 
@@ -159,6 +231,7 @@ def fixed():
     yield "part numbers", text(*part_numbers())
     yield "every byte first and in the middle", text(*every_byte(b"%sX", b"X%sX"), b"W")
     yield "two spellings", SPELLINGS_INPUT
+    yield "a torn label", TORN_LABEL_INPUT
     yield "the last slot", text(*last_slot())
     yield "the last node", text(*last_node())
     for size in (SHEET_BYTES - 1, SHEET_BYTES, SHEET_BYTES + 1):
@@ -266,7 +339,8 @@ def lookups():
         for pairs in (b" C 1", b" _ 1", b" C 1 _ 1", b" _ 1 C 1", b" A 1 C 1", b" A 0 C 1",
                       b" B 1 A 1 C 1", b" A 1 A 1 _ 1", b" A 99 B 0", b" A 16 C 0", b" B 1 A 1",
                       b" A 1 A 1", b" A 0", b" A 16", b" A 15", b" " + b"A" * 24 + b" 1",
-                      b" " + b"A" * 25 + b" 1", b" C x", b" A 1 C", b"", b" a 1", b" A 1 b 1"):
+                      b" " + b"A" * 25 + b" 1", b" C x", b" A 1 C", b"", b" a 1", b" A 1 b 1",
+                      b" A- 1 _ 1"):
             yield head + pairs
     yield b"W"
 
@@ -360,10 +434,10 @@ def every_byte(*forms):
 
 
 def last_slot():
-    """255 parts, a 256th, and a held one and a bad one in the full register."""
+    """255 parts, a 256th, and a held, a bad and a torn one in the full register."""
     numbers = many_numbers(SLOTS)
     yield from registering(numbers)
-    yield from registering([b"NEW", numbers[0], numbers[-1], b"NEW_", b"new", b"NEW"])
+    yield from registering([b"NEW", numbers[0], numbers[-1], b"NEW_", b"NEW-", b"new", b"NEW"])
     yield b"K 1 %s 15 %s 1" % (numbers[0], numbers[-1])
     yield b"K 2 NEW 1"
     yield b"s"
@@ -450,10 +524,12 @@ def many_kits():
     yield b"W"
 
 
-# Numbers that a script by chance uses, and now and then one against the rule.
+# Numbers that a script by chance uses, and now and then one against the rule or one with
+# punctuation at an end.
 GOOD_NUMBERS = [b"A", b"B", b"C", b"AA", b"00741", b"0741", b"741", b"4016", b"1", b"0", b"2",
                 b"X-1", b"X.1", b"X/1", b"Z" * 24, b"a", b"aA", b"x-1", b"z" * 24]
 BAD_NUMBERS = [b"`", b"a{", b"A_", b"Z" * 25, b"A\0", b"\xc4"]
+TORN_NUMBERS = punctuated([b"_", b"_741", b"A_"])
 
 
 def stored():
@@ -461,7 +537,8 @@ def stored():
     return EXAMPLE_INPUT + text(
         *questions(), *line_lengths(), *stray_bytes(), *field_counts(), *tags_and_quantities(),
         *lookups(), *units_and_order()
-    ) + SPELLINGS_INPUT + text(*part_numbers(), *last_node(), *last_slot()) + long_line(1025)
+    ) + SPELLINGS_INPUT + TORN_LABEL_INPUT + text(
+        *part_numbers(), *last_node(), *last_slot()) + long_line(1025)
 
 
 def by_chance(chance):
@@ -487,8 +564,8 @@ def by_chance(chance):
 
 
 def some_number(chance):
-    """A part number, now and then a bad one."""
-    return chance.pick(BAD_NUMBERS if chance.one_in(25) else GOOD_NUMBERS)
+    """A part number, now and then a bad or a torn one."""
+    return chance.pick(chance.pick([GOOD_NUMBERS] * 23 + [BAD_NUMBERS, TORN_NUMBERS]))
 
 
 def some_line(chance, numbers, rows):

@@ -1,16 +1,18 @@
 """Requests that try the sheet: written into outputs of any room, read whole, torn and altered."""
 
 import functools
+from itertools import product
 
 from run.frame import ROOM
-from second import index, nodes, sheet
+from second import calls, index, nodes, sheet
 from second.kits import lines_of
 from second.lent import Request
 from second.nodes import MOST_NODES, NODE_WORDS
 from second.register import LONGEST_NUMBER, MOST_SLOTS, SLOT_BYTES, filled, numbers_of
 
 from .register_requests import (
-    BESIDE_LETTERS, CASE_PAIRS, EDGE_BYTES, many_numbers, many_spellings, with_byte)
+    AT_END, BESIDE_LETTERS, CASE_PAIRS, EDGE_BYTES, many_numbers, many_spellings, punctuated,
+    torn_labels, with_byte)
 from .tables import (
     LARGE_KINDS, Stock, damaged_table, large_table, parts_register, some_tables, table)
 
@@ -56,6 +58,7 @@ def limits():
     yield from torn_sheets()
     yield from item_faults()
     yield from number_faults()
+    yield from brought_in()
     yield from record_faults()
     yield from many_lines(64, 64)
     yield from many_lines(65, 64, 65)
@@ -136,6 +139,25 @@ def number_faults():
         for row in ([one, other], [other, one], [one, other, one]):
             yield reading(sheet_of(row, [record(9, (1, 1)), record(5, (2, 1))]),
                           note="numbers %s and two kits" % row)
+
+
+def brought_in():
+    """Sheets that bring in numbers with punctuation at an end, and calls on the very tables then.
+
+    They are found, shown and written again; registered they are refused, where another is not.
+    """
+    for form, slots in product(AT_END, (3, 4)):
+        row = punctuated([form])
+        data = sheet_of(row, [record(9, (1, 1)), record(5, (3, 2))])
+        asked = reading(data, slots, note="a sheet of %s" % row)
+        yield asked
+        yield reading(sheet_of(row + row[2:], []), slots + 1, note="%s, the last twice" % row)
+        came = calls.answer(asked)
+        lent = {"R": came.blocks["R"], "N": came.blocks["N"], "note": "%s brought in" % row}
+        for letter, (place, number) in product("pln", enumerate([*row, b"NEW"], start=1)):
+            yield Request(letter, place, I=number, **lent)
+        for room in (len(data) - 1, len(data), len(data) + 1):
+            yield Request("s", O=OLD_BYTES[:room], **lent)
 
 
 ONE_KIT = record(1, (1, 1))
@@ -308,6 +330,8 @@ def large():
     *spellings, another = many_spellings(MOST_SLOTS + 1)
     for row in (spellings, [*spellings[1:], another], [*spellings[1:], spellings[1]]):
         yield reading(sheet_of(row, [record(1, (254, 1))]), MOST_SLOTS, 2, "255 spellings")
+    yield reading(sheet_of(torn_labels(MOST_SLOTS), [record(1, (254, 1))]), MOST_SLOTS, 2,
+                  "255 torn labels")
     for length in (MOST_NODES * NODE_WORDS + 1, (MOST_NODES + 1) * NODE_WORDS):
         yield Request("r", R=bytes(32), N=[0] * length, I=sheet_of([], []),
                       note="%d words" % length)

@@ -8,13 +8,13 @@ from run.door import Different
 from second.calls import MOST_SHORT
 from second.kits import MOST_UNITS, lines_of, listing_order, words_of
 from second.nodes import NODE_WORDS
-from second.refusals import DONE
-from second.register import MOST_SLOTS, SLOT_BYTES
+from second.refusals import ALREADY_HELD, DONE, NOT_HELD, PUNCTUATION_AT_END
+from second.register import MOST_SLOTS, SLOT_BYTES, punctuation_at_end
 
 from .almost_requests import some_question
 from .carried import Catalogue, Contents, empty_catalogue, expect
 from .index_requests import QUESTION_LETTERS, some_list, some_room, some_tag
-from .reached import ALMOST_FILLED, ENDED_ALIKE, ENDED_APART
+from .reached import ALMOST_FILLED, BROUGHT_IN, ENDED_ALIKE, ENDED_APART
 from .register_requests import ALIKE
 from .tables import some_new_tag, some_row
 
@@ -251,10 +251,23 @@ class Walk:
                     kits[row] = tag
         return Contents(self.aim.numbers[:parts], kits)
 
+    def next_part(self):
+        """The call that brings in the aim's next part, if one is missing.
+
+        Registration refuses a number with punctuation at an end: a sheet of all that is held and
+        of this part brings it in.
+        """
+        numbers = self.aim.numbers[:self.parts() + 1]
+        if len(numbers) == self.parts():
+            return []
+        if punctuation_at_end(numbers[-1]):
+            return [("r", 0, {"I": Contents(numbers, self.contents().kits).sheet()})]
+        return [("p", 0, {"I": numbers[-1]})]
+
     def useful_calls(self):
         """The calls that lead to the aim from here, as letter, argument and blocks."""
         held, wanted = self.contents().kits, self.aim.kits
-        useful = [("p", 0, {"I": number}) for number in self.aim.numbers[self.parts():][:1]]
+        useful = self.next_part()
         for row, tag in sorted(held.items()):
             if wanted.get(row) != tag:
                 useful.append(("d", 0, {"L": words_of(lines_of(row))}))
@@ -306,8 +319,19 @@ def brought_to(door, size, aim):
     wander(walk, chance.between(5, 60))
     walk.come_home()
     catalogue.check_contents()
+    ask_for_parts(catalogue)
     list_all(catalogue)
     return catalogue
+
+
+def ask_for_parts(catalogue):
+    """Each part is found at its place, and registered again it is refused."""
+    for place, number in enumerate(catalogue.contents.numbers, start=1):
+        brought_in = punctuation_at_end(number)
+        refusal = (PUNCTUATION_AT_END, 0) if brought_in else (ALREADY_HELD, place)
+        expect(catalogue.call("p", I=number), *refusal, "%r registered again" % number)
+        expect(catalogue.call("l", I=number), DONE, place, "%r looked up" % number)
+        catalogue.came_to(BROUGHT_IN, brought_in)
 
 
 def list_all(catalogue):
@@ -354,6 +378,29 @@ def read_again(door, contents, data):
         raise Different(["a sheet that was read is written otherwise:",
                          "  " + data.hex(" "), "  " + again.hex(" ")])
     compare_sheets(contents, other.contents, data, again)
+
+
+def torn_label(door):
+    """A number that a sheet brings in, among numbers that are registered.
+
+    It is refused on registration before and after that, and in the full register.
+    """
+    catalogue = empty_catalogue(door, 3, 2)
+    kits = {(2,): 7}
+    data = Contents([b"CD4016", b"CD4016-"], kits).sheet()
+    steps = [
+        ("p", b"CD4016-", PUNCTUATION_AT_END, 0), ("l", b"CD4016-", NOT_HELD, 0),
+        ("p", b"CD4016", DONE, 1), ("r", data, DONE, 1), ("p", b"CD4016-", PUNCTUATION_AT_END, 0),
+        ("l", b"CD4016-", DONE, 2), ("p", b"CD4016", ALREADY_HELD, 1), ("p", b"4016", DONE, 3),
+        ("p", b"CD4016-", PUNCTUATION_AT_END, 0), ("p", b"/4016", PUNCTUATION_AT_END, 0),
+        ("l", b"CD4016-", DONE, 2), ("l", b"4016", DONE, 3),
+    ]
+    for letter, given, number, value in steps:
+        expect(catalogue.call(letter, I=given), number, value, "%s %r" % (letter, given))
+    catalogue.check_contents()
+    read_again(door, Contents([b"CD4016", b"CD4016-", b"4016"], kits), written_sheet(catalogue))
+    expect(catalogue.call("e"), DONE, 0, "emptied")
+    expect(catalogue.call("p", I=b"CD4016-"), PUNCTUATION_AT_END, 0, "p in an empty register")
 
 
 def pair(door, alike):

@@ -9,8 +9,8 @@ from second.kits import LEAST_QUANTITY, MOST_QUANTITY, MOST_UNITS, first_fault
 from second.nodes import MOST_NODES, NODE_WORDS
 from second.refusals import (
     BAD_NUMBER, BAD_ORDER, BAD_QUANTITY, BEYOND_PARTS, NO_ROOM, NOT_HELD, NOT_SOUND,
-    SHEET_AT_FAULT, TAG_ZERO, TOO_FAR_SHORT, TOO_MANY_UNITS, WRONG_LENGTH)
-from second.register import LONGEST_NUMBER, SLOT_BYTES
+    PUNCTUATION_AT_END, SHEET_AT_FAULT, TAG_ZERO, TOO_FAR_SHORT, TOO_MANY_UNITS, WRONG_LENGTH)
+from second.register import LONGEST_NUMBER, PUNCTUATION, SLOT_BYTES
 
 from .register_requests import BESIDE_LETTERS
 from .sheet_requests import PRINTED_SHEET
@@ -26,12 +26,21 @@ SMALL_LETTER = "a number with a small letter"
 BESIDE = "a number with byte %02X"
 IN_CASE_ONLY = "two parts that differ in case only"
 
+# Numbers with one of the three bytes at one end alone, and a register that holds any such number.
+FIRST_ALONE, LAST_ALONE = "byte %02X first alone", "byte %02X last alone"
+TORN_PART = "a part with punctuation at an end"
+
 # Where the part count of a sheet stands, behind the mark and the version.
 PART_COUNT_AT = len(sheet.MARK) + sheet.TWO_BYTES
 
 
+def has_torn_part(register_bytes):
+    """Whether a register holds a number with punctuation at an end."""
+    return any(map(register.punctuation_at_end, register.numbers_of(register_bytes)))
+
+
 def tables_lent(asked, came):
-    """Which of the two tables was refused, and whether both were good."""
+    """Which of the two tables was refused, whether both were good, and a part among them."""
     register_bytes = asked.blocks["R"]
     wrong, unsound = came.number == WRONG_LENGTH, came.number == NOT_SOUND
     return {
@@ -40,6 +49,7 @@ def tables_lent(asked, came):
         "a register that is not sound": unsound and not register.sound(register_bytes),
         "nodes that are not sound": unsound and register.sound(register_bytes),
         "sound tables": not wrong and not unsound,
+        TORN_PART: not wrong and not unsound and has_torn_part(register_bytes),
     }
 
 
@@ -97,9 +107,13 @@ def letters_given(asked, came):
 
 
 def looked_up(asked, came):
-    """A number that is not held, while another spelling is."""
-    return {"another spelling alone is held": came.number == NOT_HELD and other_spellings(
-        asked.blocks["I"], register.numbers_of(asked.blocks["R"]))}
+    """A number that is not held, while another spelling is; one with punctuation at an end."""
+    number = asked.blocks["I"]
+    return {
+        "another spelling alone is held": came.number == NOT_HELD and other_spellings(
+            number, register.numbers_of(asked.blocks["R"])),
+        "punctuation at an end found": came.done() and register.punctuation_at_end(number),
+    }
 
 
 def registered(_, came):
@@ -107,11 +121,31 @@ def registered(_, came):
     return {"the last free slot": came.done() and any(came.blocks["R"][-SLOT_BYTES:])}
 
 
+def ends_refused(asked, came):
+    """Each of the three bytes at one end alone; where 16 comes before 9 and 12; and inside."""
+    number, register_bytes = asked.blocks["I"], asked.blocks["R"]
+    refused = came.number == PUNCTUATION_AT_END
+    held = refused and register.place_of(register_bytes, number)
+    return {
+        **{FIRST_ALONE % byte: refused and number[0] == byte and number[-1] not in PUNCTUATION
+           for byte in PUNCTUATION},
+        **{LAST_ALONE % byte: refused and number[-1] == byte and number[0] not in PUNCTUATION
+           for byte in PUNCTUATION},
+        "one byte of punctuation": refused and len(number) == 1,
+        "punctuation at an end of 24 bytes": refused and len(number) == LONGEST_NUMBER,
+        "punctuation at an end of a held number": held,
+        "punctuation at an end and no free slot": refused and not held
+                                                  and any(register_bytes[-SLOT_BYTES:]),
+        "punctuation inside alone": came.done() and any(byte in PUNCTUATION for byte in number),
+    }
+
+
 def place_given(asked, came):
-    """Places that no part has."""
+    """Places that no part has, and one whose number has punctuation at an end."""
     return {
         "place 0": came.number == NOT_HELD and asked.a == 0,
         "a place behind the last": came.number == NOT_HELD and asked.a > 0,
+        "punctuation at an end shown": register.punctuation_at_end(came.blocks["O"]),
     }
 
 
@@ -254,10 +288,11 @@ def number_at_fault(data, offset):
     return b""
 
 
-def letters_read(asked, came):
-    """Small letters, bytes beside the letters, and parts of two spellings on one sheet."""
+def numbers_read(asked, came):
+    """Small letters, bytes beside them, two spellings and punctuation at an end on a sheet."""
     numbers = register.numbers_of(came.blocks["R"]) if came.done() else []
     return {
+        TORN_PART: came.done() and has_torn_part(came.blocks["R"]),
         SMALL_LETTER: any(map(has_small_letter, numbers)),
         IN_CASE_ONLY: len({number.lower() for number in numbers}) < len(numbers),
         **beside_letters(number_at_fault(asked.blocks["I"], came.value)
@@ -267,13 +302,13 @@ def letters_read(asked, came):
 
 # The limits of documents 01 and 02, as ways of each call.
 LIMITS = {
-    "e": [emptied], "p": [number_given, letters_given, registered],
+    "e": [emptied], "p": [number_given, letters_given, registered, ends_refused],
     "l": [number_given, letters_given, looked_up], "n": [place_given],
     "k": [tables_lent, list_given, entered], "f": [tables_lent, list_given],
     "d": [tables_lent, list_given, struck_out], "w": [tables_lent, list_given, first_found],
     "c": [tables_lent, list_given, first_found], "W": [tables_lent, list_given, output_into("P")],
     "C": [tables_lent, list_given, output_into("P")], "a": [tables_lent, list_given, almost_filled],
-    "s": [tables_lent, output_into("O")], "r": [sheet_read, letters_read],
+    "s": [tables_lent, output_into("O")], "r": [sheet_read, numbers_read],
 }
 # Those that take large requests too, each of the calls that have the way beside it.
 LARGE = {tables_lent: largest_lent, list_given: line_at_fault}

@@ -3,8 +3,8 @@
 from . import index, kits, nodes, questions, register, sheet
 from .lent import ANSWER_BLOCKS, Answer
 from .refusals import (
-    ALREADY_HELD, BAD_NUMBER, DONE, NO_ROOM, NOT_HELD, NOT_SOUND, SHEET_AT_FAULT, TAG_TAKEN,
-    TAG_ZERO, TOO_FAR_SHORT, TOO_MANY_UNITS, WRONG_LENGTH, Refusal)
+    ALREADY_HELD, BAD_NUMBER, DONE, NO_ROOM, NOT_HELD, NOT_SOUND, PUNCTUATION_AT_END,
+    SHEET_AT_FAULT, TAG_TAKEN, TAG_ZERO, TOO_FAR_SHORT, TOO_MANY_UNITS, WRONG_LENGTH, Refusal)
 
 # "a number d from 0 to 64"
 MOST_SHORT = 64
@@ -25,10 +25,12 @@ def check_number(number):
 
 
 def register_number(request):
-    """Register a number: its place. After 3 come 9 and 12."""
+    """Register a number: its place. After 3 come 16, 9 and 12."""
     lent = request.blocks
     check_register(lent)
     check_number(lent["I"])
+    if register.punctuation_at_end(lent["I"]):
+        raise Refusal(PUNCTUATION_AT_END)
     place = register.place_of(lent["R"], lent["I"])
     if place:
         raise Refusal(ALREADY_HELD, place)

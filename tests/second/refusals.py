@@ -16,6 +16,8 @@ NO_ROOM = 12
 SHEET_AT_FAULT = 13
 # Request 1: "new 14, d above 64".
 TOO_FAR_SHORT = 14
+# Request 6: "new 16, on registration only, after 3 and before 9".
+PUNCTUATION_AT_END = 16
 
 
 class Refusal(Exception):

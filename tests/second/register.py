@@ -1,4 +1,4 @@
-"""Part numbers and the register, as document 01's section of that name and request 3 say."""
+"""Part numbers and the register: document 01's section of that name, requests 3 and 6."""
 
 from functools import lru_cache
 
@@ -26,6 +26,11 @@ def good_number(number):
     if not SHORTEST_NUMBER <= len(number) <= LONGEST_NUMBER:
         return False
     return all(byte in NUMBER_BYTES for byte in number)
+
+
+def punctuation_at_end(number):
+    """Whether this is "a number whose first or last byte is a hyphen, full stop or slash"."""
+    return any(byte in PUNCTUATION for byte in (*number[:1], *number[-1:]))
 
 
 def right_length(register):

@@ -27,8 +27,10 @@ done-or-refused v.NotHeld = inr (omega arith, refl)
 done-or-refused (v.NoRoom x) = inr (omega arith, refl)
 done-or-refused (v.Fault x) = inr (omega arith, refl)
 done-or-refused v.TooFar = inr (omega arith, refl)
+done-or-refused v.Punctuated = inr (omega arith, refl)
 
--- the answers in the order of their numbers, each with the value x where it carries one
+-- the answers in the order of their numbers, each with the value x where it carries one; no answer has the number 15, and `TooFar`
+-- stands there
 inOrder : ℕ → List Answer
 inOrder x =
     v.Done x
@@ -46,6 +48,8 @@ inOrder x =
     ∷ v.NoRoom x
     ∷ v.Fault x
     ∷ v.TooFar
+    ∷ v.TooFar
+    ∷ v.Punctuated
     ∷ []
 
 answerOf : Reply → Answer
@@ -68,6 +72,7 @@ answer-back v.NotHeld = refl
 answer-back (v.NoRoom x) = refl
 answer-back (v.Fault x) = refl
 answer-back v.TooFar = refl
+answer-back v.Punctuated = refl
 
 -- the reply determines the answer
 pub reply-determines : (a b : Answer) → reply a ≡ reply b → a ≡ b

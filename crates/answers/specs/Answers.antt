@@ -20,3 +20,4 @@ reply v.NotHeld = refused 11 0
 reply (v.NoRoom x) = refused 12 x
 reply (v.Fault x) = refused 13 x
 reply v.TooFar = refused 14 0
+reply v.Punctuated = refused 16 0

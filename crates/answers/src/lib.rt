@@ -30,6 +30,8 @@ pub enum Answer {
     Fault(usize),
     // kits asked for that lack more than 64 units
     TooFar,
+    // a number to register with punctuation at an end
+    Punctuated,
 }
 
 pub fn refused(a: Answer) -> bool
@@ -51,6 +53,7 @@ pub fn refused(a: Answer) -> bool
         Answer::NoRoom(_) => true,
         Answer::Fault(_) => true,
         Answer::TooFar => true,
+        Answer::Punctuated => true,
     }
 }
 
@@ -81,6 +84,8 @@ const NO_ROOM: u8 = 12;
 const FAULT: u8 = 13;
 
 const TOO_FAR: u8 = 14;
+
+const PUNCTUATED: u8 = 16;
 
 // A number, 0 for done, and a value.
 pub struct Reply {
@@ -120,5 +125,6 @@ pub fn reply_of(a: Answer) -> Reply
         Answer::NoRoom(v) => refusal(NO_ROOM, v),
         Answer::Fault(v) => refusal(FAULT, v),
         Answer::TooFar => refusal(TOO_FAR, 0),
+        Answer::Punctuated => refusal(PUNCTUATED, 0),
     }
 }

@@ -39,7 +39,7 @@ tagOf T l = tagIn (units l) (held (T .nodes))
 unfoldable pub emptying : Tables → Plan Tables
 emptying T = plan (lengths T) 0 (tables (zeroed (T .register)) (zeroed (T .nodes)))
 
--- [8.7, 8.8, 8.16, 10.2] "Insert list and tag: nodes newly taken": "then 8; then 4 for odd length; then line by line 4, 5, 6; then 7, 9,
+-- [8.7, 8.8, 7.11, 10.2] "Insert list and tag: nodes newly taken": "then 8; then 4 for odd length; then line by line 4, 5, 6; then 7, 9,
 -- 10, .., 12"
 unfoldable pub inserting : List ℕ → ℕ → Tables → Plan Tables
 inserting l t T =

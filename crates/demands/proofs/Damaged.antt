@@ -116,7 +116,7 @@ fronted : (c : Call) (T : Tables) → Fronted c T
 unfolding planOf what-is-asked asksOf lentRegister lengths lentBoth lentList emptying registering numberRefusals lookingUp showing inserting
     entryRefusals finding deleting missingRefusals anyKit allKits almostKits setBoth writing setDown reading sheetRefusals roomRefusals
 fronted emptyBoth T = record { rest = []; cases = refl; above = none }
-fronted (registerPart n) T = record { rest = _; cases = refl; above = also refl (also refl (also refl none)) }
+fronted (registerPart n) T = record { rest = _; cases = refl; above = also refl (also refl (also refl (also refl none))) }
 fronted (lookUp n) T = record { rest = _; cases = refl; above = also refl (also refl none) }
 fronted (showAt p) T = record { rest = _; cases = refl; above = also refl none }
 fronted (insertKit l t) T = record {

@@ -11,10 +11,12 @@ pub mod Sheets
 pub mod Told
 pub mod Damaged
 pub mod AtFault
+pub mod LaidDown
 pub mod Shown
 pub mod Offsets
 pub mod Values
 pub mod Opened
 pub mod Before
+pub mod Torn
 pub mod ShortCases
 pub mod Limits

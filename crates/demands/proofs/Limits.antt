@@ -1,12 +1,12 @@
 -- The limits, computed.
 use mathlib.Core.Path.{refl}
-use Rattle.demands.specs.Limits.{registeredAlone, mayStand, fiveParts, pathFrom, pathAnswer, listAnswer, risingLines, checkAnswer, twoKits, wordsAfter, readIn, NumberLimits, LengthLimits}
+use Rattle.demands.specs.Limits.{registeredAlone, bytesWith, fiveParts, pathFrom, pathAnswer, listAnswer, risingLines, checkAnswer, twoKits, wordsAfter, readIn, NumberLimits, LengthLimits}
 use Rattle.demands.specs.Limits.{PathLimits, ListLimits, LineLimits, RoomLimits, OrderOfRefusals, NodeWords, SheetLimits, Limits}
 use Rattle.demands.proofs.Opened.{opened}
 
 number-limits : NumberLimits
-unfolding opened registeredAlone mayStand
-number-limits = (refl, refl, refl, refl)
+unfolding opened registeredAlone bytesWith
+number-limits = (refl, refl, refl, refl, refl, refl, refl)
 
 length-limits : LengthLimits
 unfolding opened
@@ -31,7 +31,7 @@ room-limits = (refl, refl, refl, refl, refl, refl)
 order-of-refusals : OrderOfRefusals
 unfolding opened fiveParts twoKits
 order-of-refusals =
-    (refl, refl, refl, refl, refl, refl, refl, refl, refl, refl, refl, refl, refl, refl, refl, refl, refl, refl, refl, refl, refl, refl)
+    (refl, refl, refl, refl, refl, refl, refl, refl, refl, refl, refl, refl, refl, refl, refl, refl, refl, refl, refl, refl, refl, refl, refl)
 
 node-words : NodeWords
 unfolding opened wordsAfter

@@ -3,7 +3,7 @@ use mathlib.Core.Bool.{Bool, true}
 use Rattle.ground.specs.Lists.{allb, anyb, every, keep, distinct, concat, eqList, from, firstOr}
 use Rattle.ground.specs.Laid.{laid}
 use Rattle.ground.specs.Calls.{decide, answer, leaves, memory, setDown, setBoth}
-use Rattle.register.specs.Number.{goodByte, goodNumber}
+use Rattle.register.specs.Number.{goodByte, goodNumber, punctuationAtEnd}
 use Rattle.register.specs.Register.{registerLength, slotOf, slotAt, numberIn, slotGood, unusedAt, usedAt, numberAt, partsOf, usedHolds}
 use Rattle.register.specs.Register.{usedFirst, unusedZero, noneTwice, registerSound, placeFrom, placeIn, registerOf}
 use Rattle.register.specs.Calls.{lentRegister, numberRefusals, registering, lookingUp, showing}
@@ -34,7 +34,7 @@ use Rattle.demands.specs.Model.{run, begun, tablesOf, log}
 unfoldable pub opened : Bool
 unfolding allb anyb every keep distinct concat eqList from firstOr laid decide answer leaves memory setDown setBoth goodByte goodNumber
     registerLength slotOf slotAt numberIn slotGood unusedAt usedAt numberAt partsOf usedHolds usedFirst unusedZero noneTwice
-    registerSound placeFrom placeIn registerOf lentRegister numberRefusals registering lookingUp showing lineValue lineFaults
+    registerSound placeFrom placeIn registerOf lentRegister punctuationAtEnd numberRefusals registering lookingUp showing lineValue lineFaults
     linesFaults listFaults units count noMore includes before linesFrom listOf caseTest goodList nodesLength nodesOf othersOf zeroWord
     isFree isUsed freeNodes usedNodes tagged path rowOf chain children rootGood parentGood depthGood labelGood fewEqual linksInside
     childGood nextGood onChain endTagged tagsDiffer usedOthers nodesSound putKit inOrder tagIn tagsOf kitAt held firstTag beginnings

@@ -205,8 +205,9 @@ module _ (n R : List ℕ) where
   registering-small = small-front (lentRegister R) _ _ (lent-register-fits R) (λ e.
       let r = register-passed R e in
       small-step _ _ _ (λ _. some-limit) (λ _.
+      small-step _ _ _ (λ _. some-limit) (λ _.
       small-step _ _ _ (λ _. place-small r) (λ _.
-      small-step _ _ _ (λ _. omega arith) (λ _. end-small _ (omega (arith, few-parts R r))))))
+      small-step _ _ _ (λ _. omega arith) (λ _. end-small _ (omega (arith, few-parts R r)))))))
 
   pub looking-small : valueOf (answer (lookingUp n R)) < limit
   unfolding answer lookingUp

@@ -5,7 +5,7 @@
 -- each function shows that it ends and stays inside its memory.
 use mathlib.Core.Path.{_≡_}
 use mathlib.Core.Logic.{_↔_, _⊎_}
-use mathlib.Core.Bool.{_||_, false, not}
+use mathlib.Core.Bool.{_||_, true, false, not}
 use mathlib.Core.List.{List, [], _++_, _∷_}
 use Prim.Native.Nat.{_+_, _-_, ℕ}
 use lib.ListN.{length}
@@ -13,7 +13,7 @@ use lib.Dec.{eqb, leb, ltb}
 use Rattle.ground.specs.Lists.{anyb, isZero}
 use Rattle.ground.specs.Calls.{Both, Given, Plan, Reply, answer, decide, done, given, memory, numberOf, refused, setDown}
 use Rattle.ground.specs.Tables.{Tables}
-use Rattle.register.specs.Number.{goodNumber}
+use Rattle.register.specs.Number.{goodNumber, punctuationAtEnd}
 use Rattle.register.specs.Register.{placeIn, registerLength, registerSound}
 use Rattle.kits.specs.Kits.{listFaults, mostUnits, units}
 use Rattle.nodes.specs.Nodes.{nodesLength}
@@ -38,6 +38,7 @@ unfoldable pub told : ℕ → ℕ → Contents → Call → Reply
 told slots room m emptyBoth = done 0
 told slots room m (registerPart n) = decide
     (given (not (goodNumber n)) 3 0
+    ∷ given (punctuationAtEnd n) 16 0
     ∷ given (not (isZero (placeIn n (m .parts)))) 9 (placeIn n (m .parts))
     ∷ given (leb slots (length (m .parts))) 12 1 ∷ [])
     (length (m .parts) + 1)
@@ -112,6 +113,28 @@ OneExactly = (c : Call) (T : Tables) → (numberOf (answer (planOf c T)) ≡ 1) 
 abbrev pub TwoExactly : Type 0
 TwoExactly =
     (c : Call) (T : Tables) → (numberOf (answer (planOf c T)) ≡ 2) ↔ ((LengthWrong (asksOf c) T → ⊥) × TableUnsound (asksOf c) T)
+
+-- [14.23] the numbers that a call may be refused with, in its order: "16, on registration only"
+unfoldable pub numbersGiven : Call → List ℕ
+numbersGiven emptyBoth = 1 ∷ []
+numbersGiven (registerPart n) = 1 ∷ 2 ∷ 3 ∷ 16 ∷ 9 ∷ 12 ∷ []
+numbersGiven (lookUp n) = 1 ∷ 2 ∷ 3 ∷ 11 ∷ []
+numbersGiven (showAt p) = 1 ∷ 2 ∷ 11 ∷ []
+numbersGiven (insertKit l t) = 1 ∷ 2 ∷ 8 ∷ 4 ∷ 5 ∷ 6 ∷ 7 ∷ 9 ∷ 10 ∷ 12 ∷ []
+numbersGiven (findKit l) = 1 ∷ 2 ∷ 4 ∷ 5 ∷ 6 ∷ 11 ∷ []
+numbersGiven (deleteKit l) = 1 ∷ 2 ∷ 4 ∷ 5 ∷ 6 ∷ 11 ∷ []
+numbersGiven (anyWithin l) = 1 ∷ 2 ∷ 4 ∷ 5 ∷ 6 ∷ []
+numbersGiven (anyContaining l) = 1 ∷ 2 ∷ 4 ∷ 5 ∷ 6 ∷ []
+numbersGiven (allWithin l o) = 1 ∷ 2 ∷ 4 ∷ 5 ∷ 6 ∷ 12 ∷ []
+numbersGiven (allContaining l o) = 1 ∷ 2 ∷ 4 ∷ 5 ∷ 6 ∷ 12 ∷ []
+numbersGiven (allAlmost d l o) = 1 ∷ 2 ∷ 4 ∷ 5 ∷ 6 ∷ 14 ∷ 12 ∷ []
+numbersGiven (writeSheet o) = 1 ∷ 2 ∷ 12 ∷ []
+numbersGiven (readSheet s) = 1 ∷ 13 ∷ 12 ∷ []
+
+-- [14.23] of any tables, a call is done or refused with one of its numbers. Proof: LaidDown, `numbers-laid-down`
+abbrev pub NumbersLaidDown : Type 0
+NumbersLaidDown =
+    (c : Call) (T : Tables) → (numberOf (answer (planOf c T)) ≡ 0) ⊎ (anyb (eqb (numberOf (answer (planOf c T)))) (numbersGiven c) ≡ true)
 
 ------------------------------------------------------------------------
 -- Of any call there may be: these two hold of every list of cases, whatever it says; with the statements above they say what a refusal is

@@ -8,4 +8,5 @@ pub mod Demand3
 pub mod Pins
 pub mod ShortCases
 pub mod Before
+pub mod Torn
 pub mod Limits

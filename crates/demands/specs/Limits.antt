@@ -1,11 +1,11 @@
 -- Every limit of documents 01 and 02, on both sides of its bound, and every pair of neighbours in its order of refusals, in literal numbers, to be held
 -- against the document's words. Computed. Proof: proofs/Limits, `limits`
 use mathlib.Core.Path.{_≡_}
-use mathlib.Core.Bool.{Bool}
 use mathlib.Core.List.{List, [], _∷_, _++_, map}
 use Prim.Native.Nat.{ℕ, zero, suc, _+_, _-_, _*_, _/_}
 use lib.ListN.{take, replicate}
-use Rattle.ground.specs.Lists.{from, keep, isZero}
+use lib.Dec.{eqb}
+use Rattle.ground.specs.Lists.{from, keep}
 use Rattle.ground.specs.Calls.{Reply, done, refused, numberOf, valueOf, decide, answer, both}
 use Rattle.ground.specs.Tables.{Tables, tables}
 use Rattle.register.specs.Calls.{registering, lookingUp, showing}
@@ -28,16 +28,22 @@ emptyTables slots nodes = zeroTables (slots * 32) (nodes * 6)
 unfoldable pub registeredAlone : List ℕ → Reply
 registeredAlone n = answer (registering n (replicate 32 0))
 
-unfoldable pub mayStand : ℕ → Bool
-mayStand b = isZero (numberOf (registeredAlone (b ∷ [])))
+-- the bytes that registration answers with this number, where each is a number by itself
+unfoldable pub bytesWith : ℕ → List ℕ
+bytesWith k = keep (λ b. eqb k (numberOf (registeredAlone (b ∷ [])))) (from 0 256)
 
 abbrev pub NumberLimits : Type 0
 NumberLimits =
     (registeredAlone [] ≡ refused 3 0)
     × (registeredAlone (replicate 24 0x41) ≡ done 1)
     × (registeredAlone (replicate 25 0x41) ≡ refused 3 0)
-    -- of all bytes: - . / 0 to 9, A to Z, a to z
-    × (keep mayStand (from 0 256) ≡ from 0x2D 13 ++ (from 0x41 26 ++ from 0x61 26))
+    -- of all bytes: 0 to 9, A to Z, a to z
+    × (bytesWith 0 ≡ from 0x30 10 ++ (from 0x41 26 ++ from 0x61 26))
+    -- "Registration refuses a number whose first or last byte is a hyphen, full stop or slash"
+    × (bytesWith 16 ≡ from 0x2D 3)
+    × (map registeredAlone ((0x2D ∷ 0x41 ∷ []) ∷ (0x41 ∷ 0x2E ∷ []) ∷ (0x2F ∷ 0x41 ∷ 0x2F ∷ []) ∷ (replicate 23 0x41 ++ (0x2D ∷ [])) ∷ [])
+    ≡ replicate 4 (refused 16 0))
+    × (registeredAlone (0x41 ∷ 0x2D ∷ 0x2E ∷ 0x2F ∷ 0x41 ∷ []) ≡ done 1)
 
 ------------------------------------------------------------------------
 -- "Its length is a multiple of 32 from 32 to 8,160 (1 to 255 parts)." "Lent 16-bit words, six per node .. 1 to 4,096 nodes."
@@ -175,10 +181,11 @@ OrderOfRefusals =
     × (answer (almostKits 65 (1 ∷ 0 ∷ []) twoKits (both [] [])) ≡ refused 6 1)
     × (answer (almostKits 65 [] twoKits (both [] [])) ≡ refused 14 0)
     × (answer (almostKits 64 [] twoKits (both [] [])) ≡ refused 12 2)
-    -- numbers: 1 and 3; 2 and 3; 3 and 12; 9 and 12; 12 alone; 11
+    -- numbers: 1 and 3; 2 and 3; 3, 16 and 12; 16 and 12; 9 and 12; 12 alone; 11
     × (answer (registering [] []) ≡ refused 1 0)
     × (answer (registering [] badRegister) ≡ refused 2 0)
-    × (answer (registering [] (twoKits .register)) ≡ refused 3 0)
+    × (answer (registering (0x5F ∷ 0x2D ∷ []) (twoKits .register)) ≡ refused 3 0)
+    × (answer (registering (0x2D ∷ []) (twoKits .register)) ≡ refused 16 0)
     × (answer (registering (0x41 ∷ []) (twoKits .register)) ≡ refused 9 1)
     × (answer (registering (0x42 ∷ []) (twoKits .register)) ≡ refused 12 1)
     × (answer (lookingUp (0x42 ∷ []) (twoKits .register)) ≡ refused 11 0)

@@ -95,7 +95,7 @@ module _ {T : Tables} {m : Contents} (b : Brought T m) (hs : slotCount (T .regis
   unfolding told numbersOf anyb
   register-among n =
       told-among (numbersOf letter.registers) (registerPart n)
-      (decided-among (numbersOf letter.registers) _ _ refl (also (λ _. refl) (also (λ _. refl) (also (λ _. refl) no-more))))
+      (decided-among (numbersOf letter.registers) _ _ refl (also (λ _. refl) (also (λ _. refl) (also (λ _. refl) (also (λ _. refl) no-more)))))
 
   write-among : (s : List ℕ) → Among (numbersOf letter.writes) (numberOf (answer (planOf (writeSheet s) T)))
   unfolding told numbersOf anyb answer setDown

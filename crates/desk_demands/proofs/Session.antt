@@ -4,7 +4,7 @@ use mathlib.Core.Bool.{Bool, true}
 use Rattle.ground.specs.Lists.{allb, anyb, every, keep, distinct, concat, eqList, from, firstOr}
 use Rattle.ground.specs.Laid.{laid}
 use Rattle.ground.specs.Calls.{decide, answer, leaves, memory, setDown}
-use Rattle.register.specs.Number.{goodByte, goodNumber}
+use Rattle.register.specs.Number.{goodByte, goodNumber, punctuationAtEnd}
 use Rattle.register.specs.Register.{registerLength, slotOf, slotAt, numberIn, slotGood, unusedAt, usedAt, numberAt, partsOf, usedHolds}
 use Rattle.register.specs.Register.{usedFirst, unusedZero, noneTwice, registerSound, placeFrom, placeIn}
 use Rattle.register.specs.Calls.{lentRegister, numberRefusals, registering, lookingUp}
@@ -31,7 +31,7 @@ use Rattle.desk_lists.specs.Typed.{inFrontOf, lookedUp}
 use Rattle.desk_lines.specs.Sizes.{emptyDesk}
 use Rattle.desk_lines.specs.Desk.{called, shown, sheetText, registerLine, writeLine, withList, callOf, asked, askLine, atDesk}
 use Rattle.desk_demands.specs.Text.{bytesOf, textOf, repliesTo, replyText}
-use Rattle.desk_demands.specs.Session.{session, sessionReplies, SessionReplied, LettersReplied, LineCases}
+use Rattle.desk_demands.specs.Session.{session, sessionReplies, SessionReplied, LettersReplied, TornReplied, LineCases}
 
 -- opens every definition that taking a line apart uses
 unfoldable lineOpened : Bool
@@ -43,7 +43,7 @@ lineOpened = true
 unfoldable opened : Bool
 unfolding lineOpened keep distinct concat eqList from firstOr laid decide answer leaves memory setDown goodByte goodNumber registerLength
     slotOf slotAt numberIn slotGood unusedAt usedAt numberAt partsOf usedHolds usedFirst unusedZero noneTwice registerSound placeFrom placeIn
-    lentRegister numberRefusals registering lookingUp lineValue lineFaults linesFaults listFaults units count noMore includes before
+    lentRegister punctuationAtEnd numberRefusals registering lookingUp lineValue lineFaults linesFaults listFaults units count noMore includes before
     linesFrom listOf nodesLength nodesOf othersOf zeroWord isFree isUsed freeNodes usedNodes tagged path rowOf chain children rootGood
     parentGood depthGood labelGood fewEqual linksInside childGood nextGood onChain endTagged tagsDiffer usedOthers nodesSound putKit inOrder
     tagIn tagsOf firstTag kitAt held hasLabel childWith nodeOf lastBelow linkTo link unlink lowestFree enter lacks prune strikeAt strike
@@ -60,6 +60,10 @@ session-replied = refl
 pub letters-replied : LettersReplied
 unfolding opened
 letters-replied = refl
+
+pub torn-replied : TornReplied
+unfolding opened
+torn-replied = refl
 
 pub line-cases : LineCases
 unfolding lineOpened

@@ -88,7 +88,7 @@ RepliesInTurn =
 -- since places are looked up; nor 13 and 14, whose calls it never makes; nor 12 for b and s, since 2,048 places are enough for 2,048 nodes.
 unfoldable pub numbersOf : ℕ → List ℕ
 numbersOf x =
-    cond (eqb x letter.registers) (0 ∷ 3 ∷ 9 ∷ 12 ∷ [])
+    cond (eqb x letter.registers) (0 ∷ 3 ∷ 9 ∷ 12 ∷ 16 ∷ [])
     (cond (eqb x letter.writes) (0 ∷ 12 ∷ [])
     (cond (eqb x letter.inserts) (0 ∷ 3 ∷ 4 ∷ 6 ∷ 7 ∷ 8 ∷ 9 ∷ 10 ∷ 11 ∷ 12 ∷ [])
     (0 ∷ 3 ∷ 4 ∷ 6 ∷ 11 ∷ [])))

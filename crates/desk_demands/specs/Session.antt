@@ -57,6 +57,12 @@ LettersReplied =
     replyText 2 1 1 1 (textOf ("P 74ls00" ∷ "P 74LS00" ∷ "P 74ls00" ∷ "P 74Ls00" ∷ "F 74LS00 1" ∷ []))
     ≡ textOf ("P 0 1" ∷ "P 0 2" ∷ "P 9 1" ∷ "P 12 1" ∷ "F 11 0" ∷ [])
 
+-- [14.20] request 6: a torn label left a hyphen at the end. Proof: proofs/Session, `torn-replied`
+abbrev pub TornReplied : Type 0
+TornReplied =
+    replyText 2 1 1 1 (textOf ("P CD4016-" ∷ "P CD4016" ∷ "P CD4016-" ∷ "F CD4016- 1" ∷ []))
+    ≡ textOf ("P 16 0" ∷ "P 0 1" ∷ "P 16 0" ∷ "F 11 0" ∷ [])
+
 -- a line typed, taken apart
 abbrev pub lineTyped : String → Parsed
 lineTyped l = parsed (bytesOf l)

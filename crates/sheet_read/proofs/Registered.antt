@@ -1,5 +1,5 @@
--- The register of some parts, byte for byte: it is sound and has these parts, and registering them one after the other in an emptied
--- register makes it.
+-- The register of some parts, byte for byte: it is sound and has these parts, and it is what registration sets down one after the other in an
+-- emptied register, where 16, which reading never gives, is left aside.
 use mathlib.Core.Path.{_≡_, refl, ap, sym, _∙_}
 use mathlib.Core.Logic.{⊎-elim, _≢_}
 use mathlib.Core.Bool.{Bool, true, false, not}
@@ -11,11 +11,10 @@ use lib.Seq.{drop-drop, take-at, drop-at}
 use borrow.Author.Tests.{not-true}
 use Rattle.ground.specs.Lists.{allb, anyb, distinct, concat, eqList, from}
 use Rattle.ground.specs.Laid.{laid, zeroed}
-use Rattle.ground.specs.Calls.{memory, answer}
+use Rattle.ground.specs.Calls.{done, answer}
 use Rattle.ground.proofs.Laws.{and-left, and-right, and-both, or-left, or-right, anyb-append, allb-append, eqList-sym}
 use Rattle.ground.proofs.Laid.{laid-front}
-use Rattle.ground.proofs.Calls.{leaves-done}
-use Rattle.register.specs.Number.{longestNumber, goodNumber}
+use Rattle.register.specs.Number.{longestNumber, goodNumber, punctuationAtEnd}
 use Rattle.register.specs.Register.{slotBytes, slotOf, slotAt, slotCount, slotGood, numberAt, partsOf, registerLength, registerSound, registerOf, placeFrom, placeIn}
 use Rattle.register.specs.Calls.{registering}
 use Rattle.register.specs.Inner.{Ready}
@@ -97,10 +96,10 @@ module _ (m : ℕ) (ps : List (List ℕ)) (good : allb goodNumber ps ≡ true) (
   pub register-long : length (registerOf m ps) ≡ m * slotBytes
   register-long = register-size m ps (good-short ps good) room
 
--- numbers registered one after the other
+-- numbers set down one after the other as registration does
 unfoldable pub registerAll : List ℕ → List (List ℕ) → List ℕ
 registerAll R [] = R
-registerAll R (p ∷ ps) = registerAll (memory (registering p R) R) ps
+registerAll R (p ∷ ps) = registerAll (registering p R .after) ps
 
 first-no : (test : List ℕ → Bool) (p : List ℕ) (ps : List (List ℕ)) → anyb test (p ∷ ps) ≡ false → test p ≡ false
 unfolding anyb
@@ -159,16 +158,20 @@ module _ (R : List ℕ) (fits : registerLength R ≡ true) where
     unfolding placeIn
     new = rw parts-now (unplaced 1 p qs ps once)
 
-    registered : memory (registering p (registerOf n qs)) (registerOf n qs) ≡ registerOf n (qs ++ (p ∷ []))
-    unfolding memory registering
+    registered : registering p (registerOf n qs) .after ≡ registerOf n (qs ++ (p ∷ []))
+    unfolding registering
     registered =
+        let e = parts-now in
+        rw e (register-more n qs (good-short qs front-good) (omega (arith, short)) p (number-short p next-good))
+
+    -- and registration does so: it is refused by nothing but 16
+    pub registered-unless-16 : punctuationAtEnd p ≡ false → answer (registering p (registerOf n qs)) ≡ done (length qs + 1)
+    registered-unless-16 whole =
         let Q = registerOf n qs in
         let r = ready qs front-good (front-once qs (p ∷ ps) once) (omega (arith, short)) in
         let e = parts-now in
         let l : slotCount Q ≡ n = omega (arith, register-long n qs front-good (front-once qs (p ∷ ps) once) (omega (arith, short))) in
-        leaves-done (answer (registering p Q)) (length (partsOf Q) + 1) Q (laid Q (length (partsOf Q) * slotBytes) (slotOf p))
-        (registering-done Q r p next-good new (rw (e, l) short))
-        ∙ rw e (register-more n qs (good-short qs front-good) (omega (arith, short)) p (number-short p next-good))
+        rw e at (registering-done Q r p next-good whole new (rw (e, l) short))
 
   register-rest : (qs ps : List (List ℕ)) → allb goodNumber (qs ++ ps) ≡ true → distinct eqList (qs ++ ps) ≡ true →
       length (qs ++ ps) ≤ slotCount R → registerAll (registerOf (slotCount R) qs) ps ≡ registerOf (slotCount R) (qs ++ ps)

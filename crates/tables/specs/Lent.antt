@@ -19,7 +19,7 @@ partCount T = length (partsOf (T .register))
 unfoldable pub lengths : Tables → List Case
 lengths T = given (not (registerLength (T .register))) 1 0 ∷ given (not (nodesLength (T .nodes))) 1 0 ∷ []
 
--- [8.2, 8.15] "2 register, 2 nodes" behind these
+-- [8.2, 7.10] "2 register, 2 nodes" behind these
 unfoldable pub lentBoth : Tables → List Case
 lentBoth T = lengths T ++ (given (not (registerSound (T .register))) 2 0 ∷ given (not (nodesSound (partCount T) (T .nodes))) 2 0 ∷ [])
 
