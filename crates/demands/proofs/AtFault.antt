@@ -5,7 +5,8 @@ use mathlib.Core.Bool.{Bool, true, false, false≢true}
 use mathlib.Core.List.{List, [], _∷_, _++_, append-assoc, append-nil}
 use Prim.Native.Nat.{ℕ, zero, suc, _+_, _*_, _/_, _%_, _-_, _≤_, _<_, min}
 use native.Mathlib.Omega.{arith}
-use lib.ListN.{length, take}
+use lib.ListN.{length}
+use lib.Seq.{take-nil}
 use Rattle.ground.specs.Calls.{Case, given, Reply, done, refused, numberOf, isRefused, decide, answer, setDown, setBoth}
 use Rattle.ground.specs.Tables.{Tables}
 use Rattle.ground.proofs.Laws.{below-or}
@@ -68,10 +69,6 @@ not-both e s = false≢true (ap isRefused (sym e ∙ s .says))
 first-lines-on : (k p q : ℕ) (l : List ℕ) → firstLines (suc k) (p ∷ q ∷ l) ≡ p ∷ q ∷ firstLines k l
 first-lines-on k p q l = let e : suc k * 2 ≡ suc (suc (k * 2)) = omega arith in rw e
 
-first-of-none : (i : ℕ) → take {A = ℕ} i [] ≡ []
-first-of-none zero = refl
-first-of-none (suc i) = refl
-
 module _ {n prev p q : ℕ} {l : List ℕ} where
   good-line : GoodLines n prev (p ∷ q ∷ l) → GoodLine n prev p q
   good-line (line a b c d g) = record { rises = a; known = b; some = c; few = d }
@@ -100,7 +97,7 @@ module _ (n prev j p q : ℕ) (l : List ℕ) where
 
 charged-lines : (n prev j k : ℕ) (l : List ℕ) → length l % 2 ≡ 0 → GoodLines n prev (firstLines k l) →
     (GoodLines n prev (firstLines (suc k) l) → ⊥) → Refuses (decide (linesFaults n prev j l) 0) (lineValue (j + k))
-charged-lines n prev j k [] even good bad = absurd (bad (subst (GoodLines n prev) (sym (first-of-none (suc k * 2))) none))
+charged-lines n prev j k [] even good bad = absurd (bad (subst (GoodLines n prev) (sym (take-nil (suc k * 2))) none))
 charged-lines n prev j k (p ∷ []) even good bad = absurd (omega arith)
 charged-lines n prev j zero (p ∷ q ∷ l) even good bad =
     let z : j + 0 ≡ j = omega arith in

@@ -52,8 +52,8 @@ cases-in emptyBoth T = also refl (also refl none)
 cases-in (registerPart n) T = also refl (also refl (also refl (also refl (also refl (also refl none)))))
 cases-in (lookUp n) T = also refl (also refl (also refl (also refl none)))
 cases-in (showAt p) T = also refl (also refl (also refl none))
-cases-in (insertKit l t) T = also refl (also refl (also refl (also refl (also refl (every-append (list-in (numbersGiven (insertKit l t)) refl refl refl (partCount T) l)
-    (also refl (also refl (also refl (also refl none)))))))))
+cases-in (insertKit l t) T = also refl (also refl (also refl (also refl (also refl
+    (every-append (list-in (numbersGiven (insertKit l t)) refl refl refl (partCount T) l) (also refl (also refl (also refl (also refl none)))))))))
 cases-in (findKit l) T =
     also refl (also refl (also refl (also refl (every-append (list-in (numbersGiven (findKit l)) refl refl refl (partCount T) l) (also refl none)))))
 cases-in (deleteKit l) T =

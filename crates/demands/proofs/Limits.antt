@@ -1,7 +1,7 @@
 -- The limits, computed.
 use mathlib.Core.Path.{refl}
-use Rattle.demands.specs.Limits.{registeredAlone, bytesWith, fiveParts, pathFrom, pathAnswer, listAnswer, risingLines, checkAnswer, twoKits, wordsAfter, readIn, NumberLimits, LengthLimits}
-use Rattle.demands.specs.Limits.{PathLimits, ListLimits, LineLimits, RoomLimits, OrderOfRefusals, NodeWords, SheetLimits, Limits}
+use Rattle.demands.specs.Limits.{registeredAlone, bytesWith, fiveParts, pathFrom, pathAnswer, listAnswer, risingLines, checkAnswer}
+use Rattle.demands.specs.Limits.{twoKits, wordsAfter, readIn, NumberLimits, LengthLimits, PathLimits, ListLimits, LineLimits, RoomLimits, OrderOfRefusals, NodeWords, SheetLimits, Limits}
 use Rattle.demands.proofs.Opened.{opened}
 
 number-limits : NumberLimits

@@ -1,16 +1,16 @@
--- Request 6: 16 on registration, and nowhere else; what a sheet brought in is found and shown.
+-- Request 6: 16 on registration, whether the number is held or not; whatever is held is found and shown.
 use mathlib.Core.Path.{_≡_, refl, sym, ap, _∙_}
-use mathlib.Core.Bool.{true, false}
+use mathlib.Core.Bool.{true}
 use mathlib.Core.List.{List, []}
-use Prim.Native.Nat.{ℕ, _+_, _-_, _≤_, _<_}
+use Prim.Native.Nat.{ℕ, _-_, _≤_, _<_}
 use native.Mathlib.Omega.{arith}
 use lib.ListN.{length, getD}
-use Rattle.ground.specs.Calls.{done, refused, decide, answer}
+use Rattle.ground.specs.Calls.{decide, answer}
 use Rattle.register.specs.Number.{goodNumber}
 use Rattle.register.specs.Register.{partsOf}
 use Rattle.register.proofs.Answers.{showing-done}
 use Rattle.register.proofs.Laws.{look-up-exactly}
-use Rattle.catalogue.specs.Calls.{registerPart, lookUp, showAt, planOf}
+use Rattle.catalogue.specs.Calls.{registerPart, planOf}
 use Rattle.demands.specs.Model.{entered, tablesOf}
 use Rattle.demands.specs.Demand1.{told}
 use Rattle.demands.specs.Torn.{tornTables, TornRefused, HeldFound, TornCases}

@@ -10,12 +10,13 @@ use lib.ListN.{length-replicate, length, take, drop, replicate, length-append}
 use lib.Seq.{drop-drop, take-at, drop-at}
 use borrow.Author.Tests.{not-true}
 use Rattle.ground.specs.Lists.{allb, anyb, distinct, concat, eqList, from}
-use Rattle.ground.specs.Laid.{laid, zeroed}
+use Rattle.ground.specs.Laid.{zeroed}
 use Rattle.ground.specs.Calls.{done, answer}
 use Rattle.ground.proofs.Laws.{and-left, and-right, and-both, or-left, or-right, anyb-append, allb-append, eqList-sym}
 use Rattle.ground.proofs.Laid.{laid-front}
 use Rattle.register.specs.Number.{longestNumber, goodNumber, punctuationAtEnd}
-use Rattle.register.specs.Register.{slotBytes, slotOf, slotAt, slotCount, slotGood, numberAt, partsOf, registerLength, registerSound, registerOf, placeFrom, placeIn}
+use Rattle.register.specs.Register.{slotBytes, slotOf, slotAt, slotCount, slotGood, numberAt, partsOf, registerLength, registerSound}
+use Rattle.register.specs.Register.{registerOf, placeFrom, placeIn}
 use Rattle.register.specs.Calls.{registering}
 use Rattle.register.specs.Inner.{Ready}
 use Rattle.register.proofs.Slots.{number-short}
