@@ -12,7 +12,8 @@ use lib.Dec.{eqb}
 use borrow.Author.Tests.{eq-eqb, ne-eqb, eqb-true, eqb-false}
 use Rattle.ground.specs.Lists.{anyb, distinct, eqList, from}
 use Rattle.ground.proofs.Laws.{below-or, by-cond, eqList-true, eqList-sym, anyb-append, map-append, from-last}
-use Rattle.repeats.specs.Inner.{numberHere, nextPlace, mostEntries, entryOf, firstEntries, EntriesInside, hashes, hashBase, hashRoom, hashFrom, hashOf, lastHashed, LastHas, LeadsBack, Hashed}
+use Rattle.repeats.specs.Inner.{numberHere, nextPlace, mostEntries, entryOf, firstEntries, isRepeat, EntriesInside}
+use Rattle.repeats.specs.Inner.{hashes, hashBase, hashRoom, hashFrom, hashOf, lastHashed, LastHas, LeadsBack, Hashed}
 
 ------------------------------------------------------------------------
 -- Numbers by their offsets
@@ -189,7 +190,7 @@ module _ (f : ℕ → List ℕ) (a b : List ℕ) (k h e : ℕ) (n : List ℕ) (t
   pub starts-has : LastHas f (hashOf n) e
   starts-has = rw back-starts (last-has f (hashOf n) k)
 
-  pub starts-tell : (x : Bool) → x ≡ anyb (eqList n) (firstEntries f e) → n ≡ f k → x ≡ anyb (eqList (f k)) (firstEntries f k)
+  pub starts-tell : (x : Bool) → x ≡ anyb (eqList n) (firstEntries f e) → n ≡ f k → x ≡ isRepeat f k
   starts-tell x told q = rw (← q) (told ∙ ap (λ i. anyb (eqList n) (firstEntries f i)) back-starts ∙ sym (up-to-last f n k))
 
 -- functions that agree on the numbers entered so far
@@ -199,7 +200,7 @@ module _ (f g : ℕ → List ℕ) where
   last-alike h zero e = refl
   last-alike h (suc k) e = rw (e k (omega arith), last-alike h k (λ j u. e j (omega arith)))
 
-  pub hashed-alike : (a b : List ℕ) (k : ℕ) → ((j : ℕ) → j < k → f j ≡ g j) → Hashed g a b k → Hashed f a b k
+  hashed-alike : (a b : List ℕ) (k : ℕ) → ((j : ℕ) → j < k → f j ≡ g j) → Hashed g a b k → Hashed f a b k
   hashed-alike a b k e t = record {
     wide = t .wide;
     long = t .long;
@@ -209,6 +210,13 @@ module _ (f g : ℕ → List ℕ) where
       leads = λ j u. rw (e j u) (t .back .leads j u ∙ sym (last-alike (hashOf (g j)) j (λ i v. e i (omega arith))));
     };
   }
+
+-- one offset more leaves the numbers before it
+pub hashed-set : (s a : List ℕ) (l e : List ℕ) (k x : ℕ) → Hashed (entryOf s a) l e k → Hashed (entryOf s (set a k x)) l e k
+unfolding entryOf
+hashed-set s a l e k x =
+    hashed-alike (entryOf s (set a k x)) (entryOf s a) l e k
+    (λ j u. let d : j ≡ k → ⊥ = λ q. omega arith in ap (numberHere s) (getD-set-other a k j x 0 d))
 
 ------------------------------------------------------------------------
 -- No number twice, from the front on
@@ -229,7 +237,7 @@ once-more (y ∷ a) x =
     turn false false r false z e = refl
 
 module _ (f : ℕ → List ℕ) where
-  once-last : (k : ℕ) → distinct eqList (firstEntries f (suc k)) ≡ (distinct eqList (firstEntries f k) && not (anyb (eqList (f k)) (firstEntries f k)))
+  once-last : (k : ℕ) → distinct eqList (firstEntries f (suc k)) ≡ (distinct eqList (firstEntries f k) && not (isRepeat f k))
   once-last k = ap (distinct eqList) (entries-last f k) ∙ once-more (firstEntries f k) (f k)
 
   once-front : (k d : ℕ) → distinct eqList (firstEntries f k) ≡ false → distinct eqList (firstEntries f (k + d)) ≡ false
@@ -244,7 +252,7 @@ module _ (f : ℕ → List ℕ) where
   once-all k m u v e = let q : m ≡ k = omega arith in rw q e
 
   -- whether the number at k is one of those before it
-  module _ (k : ℕ) (b : Bool) (told : b ≡ anyb (eqList (f k)) (firstEntries f k)) where
+  module _ (k : ℕ) (b : Bool) (told : b ≡ isRepeat f k) where
     pub once-no : (m : ℕ) → k < m → b ≡ true → distinct eqList (firstEntries f m) ≡ false
     once-no m u t =
         let s : m ≡ suc k + (m - suc k) = omega arith in

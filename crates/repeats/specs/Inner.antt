@@ -1,12 +1,12 @@
 -- Inner: no promise of the house rests on what stands here; inner contracts and proofs speak by it.
 -- Numbers in some bytes, each behind its length byte; their offsets; their hashes, and the tables that lead from a number back to those of its hash.
 use mathlib.Core.Path.{_≡_}
-use mathlib.Core.Bool.{cond}
+use mathlib.Core.Bool.{Bool, cond}
 use mathlib.Core.List.{List, [], _∷_, map}
 use Prim.Native.Nat.{ℕ, zero, suc, _+_, _-_, _*_, _%_, _≤_, _<_}
 use lib.ListN.{length, take, drop, getD}
 use lib.Dec.{eqb}
-use Rattle.ground.specs.Lists.{from}
+use Rattle.ground.specs.Lists.{anyb, eqList, from}
 
 -- the number that stands at a place, and where it ends
 abbrev pub numberHere : List ℕ → ℕ → List ℕ
@@ -29,6 +29,10 @@ entryOf s a k = numberHere s (getD a k 0)
 -- the first k of the numbers f 0, f 1, ..
 abbrev pub firstEntries : (ℕ → List ℕ) → ℕ → List (List ℕ)
 firstEntries f k = map f (from 0 k)
+
+-- the number f k is one of those before it
+abbrev pub isRepeat : (ℕ → List ℕ) → ℕ → Bool
+isRepeat f k = anyb (eqList (f k)) (firstEntries f k)
 
 -- the numbers at the first m offsets end inside the bytes
 pub record EntriesInside (s a : List ℕ) (m : ℕ) : Type 0 where

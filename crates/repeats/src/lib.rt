@@ -4,12 +4,12 @@ ghost use mathlib.Core.Path.{_≡_};
 ghost use Prim.Native.Nat.{_+_, _<_, _≤_};
 ghost use lib.ListN.{length};
 ghost use Rattle.ground.specs.Lists.{anyb, distinct, eqList};
-ghost use Rattle.repeats.specs.Inner.{numberHere, nextPlace, entryOf, firstEntries, EntriesInside, hashes, hashOf, LeadsBack, LastHas, Hashed};
+ghost use Rattle.repeats.specs.Inner.{numberHere, nextPlace, entryOf, firstEntries, isRepeat, EntriesInside, hashes, hashOf, LeadsBack, LastHas, Hashed};
 use ground::same;
 use ground::wide8;
 use ground::wide16;
 
-// "length, the number": a length byte before each number.
+// "length, the number" in a slot, "a length byte and the number" in a sheet.
 pub const LENGTH_BYTES: usize = 1;
 
 // So many numbers at most.
@@ -61,7 +61,8 @@ fn is_among(
     num: &[u8],
     e: usize,
 ) -> bool
-    requires { ⌜ EntriesInside (now s) (now at) e ⌝ ∗ ⌜ LeadsBack (entryOf (now s) (now at)) (now earlier) e ⌝ ∗ ⌜ LastHas (entryOf (now s) (now at)) (hashOf (now num)) e ⌝ }
+    requires { ⌜ EntriesInside (now s) (now at) e ⌝ ∗ ⌜ LeadsBack (entryOf (now s) (now at)) (now earlier) e ⌝ ∗
+        ⌜ LastHas (entryOf (now s) (now at)) (hashOf (now num)) e ⌝ }
     ensures { λ r. ⌜ r ≡ anyb (eqList (now (num .entry))) (firstEntries (entryOf (now (s .entry)) (now (at .entry))) e) ⌝ }
 {
     let mut k = e;
@@ -84,7 +85,8 @@ pub fn repeats_earlier(
     earlier: &mut [u16; MOST_ENTRIES],
 ) -> bool
     requires { ⌜ EntriesInside (now s) (now at) (k + 1) ⌝ ∗ ⌜ Hashed (entryOf (now s) (now at)) (now lasts) (now earlier) k ⌝ }
-    ensures { λ r. ⌜ r ≡ anyb (eqList (entryOf (now (s .entry)) (now (at .entry)) k)) (firstEntries (entryOf (now (s .entry)) (now (at .entry))) k) ⌝ ∗ ⌜ Hashed (entryOf (now (s .entry)) (now (at .entry))) (now (lasts .exit)) (now (earlier .exit)) (k + 1) ⌝ }
+    ensures { λ r. ⌜ r ≡ isRepeat (entryOf (now (s .entry)) (now (at .entry))) k ⌝ ∗
+        ⌜ Hashed (entryOf (now (s .entry)) (now (at .entry))) (now (lasts .exit)) (now (earlier .exit)) (k + 1) ⌝ }
 {
     let num = number_here(s, wide32(at[k]));
     let h = hash(num);

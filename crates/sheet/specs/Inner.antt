@@ -7,6 +7,7 @@ use lib.ListN.{length, take, drop, getD}
 use lib.Dec.{leb, ltb, eqb}
 use Rattle.ground.specs.Lists.{allb, every, distinct, eqList}
 use Rattle.ground.specs.Limits.{mostParts, twoLimit}
+use Rattle.repeats.specs.Inner.{numberHere, nextPlace}
 use Rattle.register.specs.Number.{goodNumber}
 use Rattle.kits.specs.Kits.{goodList, listOf, before, mostUnits}
 use Rattle.nodes.specs.Held.{Kit, tagsOf}
@@ -61,13 +62,6 @@ kitOf r t = record { row = r; tag = t }
 
 ------------------------------------------------------------------------
 -- Numbers in a sheet
-
--- the number that stands at a place, and where it ends
-abbrev pub numberHere : List ℕ → ℕ → List ℕ
-numberHere s j = take (getD s j 0) (drop (j + 1) s)
-
-abbrev pub nextPlace : List ℕ → ℕ → ℕ
-nextPlace s j = j + 1 + getD s j 0
 
 -- the first k numbers that stand from a place on, and where they end
 unfoldable pub numbersAt : List ℕ → ℕ → ℕ → List (List ℕ)

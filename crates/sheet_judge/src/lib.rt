@@ -5,14 +5,13 @@ ghost use mathlib.Core.Bool.{true, false};
 ghost use mathlib.Core.List.{List, []};
 ghost use Prim.Native.Nat.{ℕ, _+_, _<_, _≤_};
 ghost use lib.ListN.{length, drop};
-ghost use Rattle.ground.specs.Limits.{mostParts};
-ghost use Rattle.ground.specs.Lists.{anyb, eqList};
+ghost use Rattle.ground.specs.Limits.{byteLimit, mostParts};
 ghost use Rattle.kits.specs.Kits.{mostUnits};
 ghost use Rattle.nodes.specs.Held.{Kit};
 ghost use Rattle.sheet.specs.Sheet.{placeBytes};
-ghost use Rattle.sheet.specs.Inner.{headBytes, numbersAt, endAt, recordAt, listAt, WholeAt};
-ghost use Rattle.sheet.specs.Reading.{onward, one, numbers, numberSize, newNumber, newKit, records, whole, decode};
-ghost use Rattle.sheet_judge.specs.Inner.{judgedOf, behindNumbers, headSays, numbersSay, placeOf, goodLines, Tags, Latest};
+ghost use Rattle.sheet.specs.Inner.{headBytes, recordAt, listAt, WholeAt};
+ghost use Rattle.sheet.specs.Reading.{onward, numbers, newKit, records, whole, decode};
+ghost use Rattle.sheet_judge.specs.Inner.{judgedOf, behindNumbers, headSays, numbersSay, NumberEnds, goodLines, Tags, Latest};
 use answers::refused;
 use ground::same;
 use ground::wide16;
@@ -24,12 +23,15 @@ use kits::check_list;
 use kits::compare;
 use kits::has_room;
 use register::good_number;
+use repeats::HASHES;
+use repeats::MOST_ENTRIES;
+use repeats::number_here;
+use repeats::repeats_earlier;
 use sheet::Sheet;
 use sheet::TWO_BYTES;
 use sheet::item_size;
 use sheet::lines_size;
 use sheet::list_in;
-use sheet::number_here;
 use sheet::record_end;
 use sheet::row_in;
 use sheet::two_at;
@@ -78,28 +80,10 @@ fn read_head(s: &[u8]) -> Read
     Read::Done(wide16(count))
 }
 
-// Whether a number is one of the first k of the sheet.
-fn repeated(s: &[u8], k: usize, num: &[u8]) -> bool
-    requires { ⌜ endAt (now s) headBytes k ≤ length (now s) ⌝ }
-    ensures { λ r. ⌜ r ≡ anyb (eqList (now (num .entry))) (numbersAt (now (s .entry)) headBytes k) ⌝ }
-{
-    let mut at = Sheet::HEAD;
-    let mut i = 0;
-    while i < k {
-        if same(num, number_here(s, at)) {
-            return true;
-        }
-        at += item_size(s, at);
-        i += 1;
-    }
-    false
-}
-
-// Where the number at a place ends, behind k numbers; where it is at fault, where it starts.
-fn number_end(s: &[u8], at: usize, k: usize) -> usize
-    requires { ⌜ endAt (now s) headBytes k ≤ length (now s) ⌝ ∗ ⌜ at ≤ length (now s) ⌝ }
-    ensures { λ r. ⌜ ((seen : List (List ℕ)) → ((x : List ℕ) → anyb (eqList x) seen ≡ anyb (eqList x) (numbersAt (now (s .entry)) headBytes k)) → r ≡ placeOf
-        (one numberSize (newNumber seen) (drop at (now (s .entry))) at)) ⌝ }
+// Where the number at a place ends; where it is cut short or not good, where it starts.
+fn number_end(s: &[u8], at: usize) -> usize
+    requires { ⌜ at ≤ length (now s) ⌝ }
+    ensures { λ r. ⌜ NumberEnds (now (s .entry)) at r ⌝ ∗ ⌜ r ≤ at + byteLimit ⌝ }
 {
     if s.len() == at {
         return at;
@@ -108,26 +92,29 @@ fn number_end(s: &[u8], at: usize, k: usize) -> usize
     if s.len() - at < size {
         return at;
     }
-    let num = number_here(s, at);
-    if !good_number(num) {
-        return at;
-    }
-    if repeated(s, k, num) {
+    if !good_number(number_here(s, at)) {
         return at;
     }
     at + size
 }
 
-// n numbers, behind the head.
+// n numbers, behind the head: each a good one, and none of those before it.
 fn read_numbers(s: &[u8], n: usize) -> Read
-    requires { ⌜ headBytes ≤ length (now s) ⌝ }
+    requires { ⌜ headBytes ≤ length (now s) ⌝ ∗ ⌜ n ≤ mostParts ⌝ }
     ensures { λ r. ⌜ numbersSay (now (s .entry)) n r ⌝ }
 {
+    let mut offsets = [0; MOST_ENTRIES];
+    let mut lasts = [0; HASHES];
+    let mut earlier = [0; MOST_ENTRIES];
     let mut at = Sheet::HEAD;
     let mut k = 0;
     while k < n {
-        let end = number_end(s, at, k);
+        let end = number_end(s, at);
         if end == at {
+            return Read::Fault(at);
+        }
+        offsets[k] = at as u32;
+        if repeats_earlier(s, &offsets, k, &mut lasts, &mut earlier) {
             return Read::Fault(at);
         }
         at = end;

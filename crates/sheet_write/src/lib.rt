@@ -33,7 +33,7 @@ use nodes::parent_at;
 use nodes::tag_at;
 use register::SLOT_BYTES;
 use register::count_parts;
-use sheet::LENGTH_BYTES;
+use repeats::LENGTH_BYTES;
 use sheet::Sheet;
 use sheet::TWO_BYTES;
 use sheet::put_kit;
