@@ -20,7 +20,7 @@ use answers::Answer;
 use ground::clear;
 use ground::copy_in;
 use ground::wide16;
-use index::insert;
+use index_append::append_row;
 use nodes::clear_nodes;
 use nodes::node_count;
 use register::SLOT_BYTES;
@@ -66,9 +66,10 @@ fn fill_nodes(nodes: &mut [u16], s: &[u8], from: usize, m: usize)
 {
     clear_nodes(nodes);
     let mut at = from;
+    let mut n = 1;
     let mut k = 0;
     while k < m {
-        insert(nodes, row_in(s, at), two_at(s, at));
+        n = append_row(nodes, row_in(s, at), n, two_at(s, at));
         at = record_end(s, at);
         k += 1;
     }
