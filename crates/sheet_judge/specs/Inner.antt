@@ -76,6 +76,10 @@ goodLines n l = goodList n l && leb (length (units l)) mostUnits
 abbrev pub Tags : List ℕ → List Kit → Type 0
 Tags marks seen = (t : ℕ) → t < twoLimit → anyb (hasTag t) seen ≡ not (isZero (getD marks t 0))
 
+-- a tag, and none that is marked
+unfoldable pub newTag : List ℕ → ℕ → Bool
+newTag marks t = not (isZero t) && isZero (getD marks t 0)
+
 -- prev is the row of the latest of k kits seen
 unfoldable pub Latest : Row → ℕ → List Kit → Type 0
 Latest prev k [] = k ≡ 0
