@@ -1,65 +1,26 @@
 -- Up from the end of the row entered last: where the new row leaves it.
-use mathlib.Core.Path.{_≡_, refl, sym, ap, subst, _∙_}
+use mathlib.Core.Path.{_≡_, refl, sym, ap, ap₂, subst, _∙_}
 use mathlib.Core.Logic.{⊎-elim, _≢_}
-use mathlib.Core.Bool.{Bool, true, false, cond, false≢true, _&&_, not}
+use mathlib.Core.Bool.{false, false≢true, _&&_}
 use mathlib.Core.List.{List, [], _∷_, _++_, append-assoc, append-nil}
 use Prim.Native.Nat.{ℕ, suc, _+_, _-_, _≤_, _<_}
-use native.Mathlib.Numerals.{add-one}
 use native.Mathlib.Omega.{arith}
-use lib.ListN.{length, getD, drop, length-drop, drop-of-length-le}
-use lib.Seq.{drop-cons, drop-append-seam}
+use lib.ListN.{length, getD, take, drop, length-drop, drop-of-length-le, take-append-drop}
+use lib.Seq.{drop-cons, take-append-seam}
 use lib.Dec.{ltb, eqb}
-use borrow.Author.Tests.{eqb-true, eqb-false, eq-eqb, lt-ltb, le-ltb, ltb-false, not-true, not-false}
-use Rattle.ground.proofs.Laws.{or-left, or-right, or-no, le-or}
+use borrow.Author.Tests.{eq-eqb, le-ltb, ltb-false}
+use Rattle.ground.proofs.Laws.{or-left, le-or}
 use Rattle.kits.specs.Kits.{mostPlace, before}
-use Rattle.kits.specs.Inner.{GoodRow}
+use Rattle.kits.specs.Inner.{GoodRow, agreed}
+use Rattle.kits.proofs.Order.{agreed-same}
+use Rattle.kits.proofs.Rows.{agreed-left}
 use Rattle.nodes.specs.Nodes.{parent, child, next, label, depth, size, rowOf}
 use Rattle.nodes.specs.Inner.{Used, Live, Shape}
 use Rattle.nodes.proofs.Rows.{climb, live-inside, row-root, row-step, row-length}
 use Rattle.index_insert.specs.Enter.{enter, lacks}
 use Rattle.index_insert.proofs.Entered.{lacks-new, lacks-none}
-use Rattle.index_append.specs.Inner.{Edge, top, below, LastChild, Appendable, Appends, departsAt}
+use Rattle.index_append.specs.Inner.{Edge, top, below, LastChild, Appendable, Agrees, Appends}
 use Rattle.index_append.proofs.Places.{behind-new, enter-down, lacks-down, edge-live}
-
--- a row's label at a depth
-pub departs-short : (r : List ℕ) (d y : ℕ) → length r < d → true ≡ departsAt r d y
-unfolding departsAt
-departs-short r d y h = rw (lt-ltb (length r) d h)
-
-pub departs-here : (r : List ℕ) (d y : ℕ) → d ≤ length r → not (eqb (getD r (d - 1) 0) y) ≡ departsAt r d y
-unfolding departsAt
-departs-here r d y h = rw (le-ltb (length r) d h)
-
--- what a list that is dropped into starts with
-head-drop : (r : List ℕ) (k y : ℕ) (ls : List ℕ) → drop k r ≡ y ∷ ls → (k < length r) × (getD r k 0 ≡ y)
-head-drop r k y ls e =
-    let h : k < length r = omega (arith, length-drop k r, ap length e) in
-    let c : drop k r ≡ getD r k 0 ∷ drop (suc k) r = drop-cons r k 0 h in
-    let q : getD r k 0 ∷ drop (suc k) r ≡ y ∷ ls = sym c ∙ e in
-    (h, cc)
-
-module _ (r : List ℕ) (k y : ℕ) where
-  -- the row goes on as the last one did
-  agrees-next : departsAt r (k + 1) y ≡ false → drop k r ≡ y ∷ drop (k + 1) r
-  unfolding departsAt
-  agrees-next e =
-      let z : k + 1 - 1 ≡ k = omega arith in
-      let a : k + 1 ≤ length r = ltb-false (length r) (k + 1) (or-left (ltb (length r) (k + 1)) (not (eqb (getD r (k + 1 - 1) 0) y)) e) in
-      let b : eqb (getD r (k + 1 - 1) 0) y ≡ true = not-false (eqb (getD r (k + 1 - 1) 0) y)
-      (or-right (ltb (length r) (k + 1)) (not (eqb (getD r (k + 1 - 1) 0) y)) e) in
-      let s : getD r k 0 ≡ y = ap (λ (j : ℕ). getD r j 0) (sym z) ∙ eqb-true (getD r (k + 1 - 1) 0) y b in
-      rw add-one (drop-cons r k 0 (omega arith) ∙ ap (λ (x : ℕ). x ∷ drop (suc k) r) s)
-
-  -- or does not
-  departs-next : departsAt r (k + 1) y ≡ true → (ls : List ℕ) → drop k r ≡ y ∷ ls → ⊥
-  unfolding departsAt
-  departs-next e ls q =
-      let z : k + 1 - 1 ≡ k = omega arith in
-      let w = head-drop r k y ls q in
-      let a : ltb (length r) (k + 1) ≡ false = le-ltb (length r) (k + 1) (omega (arith, w .0)) in
-      let b : eqb (getD r (k + 1 - 1) 0) y ≡ false = not-true (eqb (getD r (k + 1 - 1) 0) y)
-      (or-no (ltb (length r) (k + 1)) (not (eqb (getD r (k + 1 - 1) 0) y)) e a) in
-      eqb-false (getD r (k + 1 - 1) 0) y b (ap (λ (j : ℕ). getD r j 0) z ∙ w .1)
 
 -- a common beginning does not tell
 before-common : (m a b : List ℕ) → before (m ++ a) (m ++ b) ≡ before a b
@@ -77,41 +38,33 @@ departed-greater (l ∷ ls) under tail y e u n =
     let d : l ≢ y = λ q. n ls (ap (λ (x : ℕ). x ∷ ls) q) in
     (omega arith, omega arith)
 
--- b is the node of the last path that the row leaves out
-record Turn (N : List ℕ) (p b : ℕ) (under rest : List ℕ) : Type 0 where
+-- nor does it count less
+agreed-common : (m a b : List ℕ) → agreed (m ++ a) (m ++ b) ≡ length m + agreed a b
+unfolding agreed
+agreed-common [] a b = omega arith
+agreed-common (x ∷ m) a b = rw (eq-eqb x x refl) (omega (arith, agreed-common m a b))
+
+agreed-more : (y : ℕ) (a b : List ℕ) → 0 < agreed (y ∷ a) (y ∷ b)
+unfolding agreed
+agreed-more y a b = rw (eq-eqb y y refl) (omega arith)
+
+-- b is the node of the last path that the row has not
+record Turn (N : List ℕ) (p b : ℕ) (under : List ℕ) : Type 0 where
   used : Used N b
   mine : parent N b ≡ p
   last : next N b ≡ 0
   tail : List ℕ
   is : under ≡ label N b ∷ tail
-  other : (ls : List ℕ) → rest ≡ label N b ∷ ls → ⊥
 
--- the last row is that of e; from x down to p the new row agrees with it, and leaves it there
-pub record Forking (N row : List ℕ) (e x p b : ℕ) : Type 0 where
-  pub edge-x : Edge N x
-  pub edge-p : Edge N p
-  mid : List ℕ
+-- up the path of e as far as p, which is at depth d, k or deeper; b is the node below p
+pub record Climbing (N : List ℕ) (e k p b d : ℕ) : Type 0 where
+  pub edge : Edge N p
+  pub deep : d ≡ depth N p
+  pub high : k ≤ d
   under : List ℕ
-  rest : List ℕ
-  last-row : rowOf N e ≡ rowOf N x ++ (mid ++ under)
-  p-row : rowOf N p ≡ rowOf N x ++ mid
-  cut : drop (depth N x) row ≡ mid ++ rest
+  last-row : rowOf N e ≡ rowOf N p ++ under
   whole : b ≡ 0 → p ≡ e
-  turn : 0 < b → Turn N p b under rest
-
-pub fork-start : {N row : List ℕ} {e : ℕ} → Edge N e → Forking N row e e e 0
-fork-start {N} {row} {e} E = record {
-  edge-x = E;
-  edge-p = E;
-  mid = [];
-  under = [];
-  rest = drop (depth N e) row;
-  last-row = sym (append-nil (rowOf N e));
-  p-row = sym (append-nil (rowOf N e));
-  cut = refl;
-  whole = λ _. refl;
-  turn = λ g. absurd (omega arith);
-}
+  turn : 0 < b → Turn N p b under
 
 record EdgeStep (N : List ℕ) (i : ℕ) : Type 0 where
   used : Used N i
@@ -122,150 +75,128 @@ edge-step : {N : List ℕ} {i : ℕ} → Edge N i → (i ≡ 0 → ⊥) → Edge
 edge-step top h = absurd (h refl)
 edge-step (below u z e) h = record { used = u; last = z; edge = e }
 
-module _ {N row : List ℕ} {e x p b : ℕ} (S : Shape mostPlace N) (F : Forking N row e x p b) (h : x ≡ 0 → ⊥) where
-  abbrev up : EdgeStep N x
-  up = edge-step (F .edge-x) h
+module _ {N row : List ℕ} {n k : ℕ} (R : Agrees N n row k) where
+  abbrev A : Appendable N n (rowOf N (n - 1)) row
+  A = R .appendable
 
-  pub fork-inside : x < size N
-  fork-inside = up .used .inside
-
-  pub fork-deep : depth N x ≡ depth N (parent N x) + 1
-  fork-deep = S .good x (up .used) .deeper
-
-  pub fork-less : {q : ℕ} → q ≡ parent N x → depth N q < depth N x
-  fork-less e = rw e (omega (arith, fork-deep))
-
-  one-up : (ls : List ℕ) → rowOf N x ++ ls ≡ rowOf N (parent N x) ++ (label N x ∷ ls)
-  one-up ls = ap (λ (r : List ℕ). r ++ ls) (row-step (climb S) x (up .used)) ∙ append-assoc (rowOf N (parent N x)) (label N x ∷ []) ls
-
-  fork-turn : departsAt row (depth N x) (label N x) ≡ true → Forking N row e (parent N x) (parent N x) x
-  fork-turn l = record {
-    edge-x = up .edge;
-    edge-p = up .edge;
-    mid = [];
-    under = label N x ∷ (F .mid ++ F .under);
-    rest = drop (depth N (parent N x)) row;
-    last-row = F .last-row ∙ one-up (F .mid ++ F .under);
-    p-row = sym (append-nil (rowOf N (parent N x)));
-    cut = refl;
-    whole = λ z. absurd (h z);
-    turn = λ _. record {
-      used = up .used;
-      mine = refl;
-      last = up .last;
-      tail = F .mid ++ F .under;
-      is = refl;
-      other = departs-next row (depth N (parent N x)) (label N x) (ap (λ (k : ℕ). departsAt row k (label N x)) (sym fork-deep) ∙ l);
-    };
-  }
-
-  fork-keep : departsAt row (depth N x) (label N x) ≡ false → Forking N row e (parent N x) p b
-  fork-keep l = record {
-    edge-x = up .edge;
-    edge-p = F .edge-p;
-    mid = label N x ∷ F .mid;
-    under = F .under;
-    rest = F .rest;
-    last-row = F .last-row ∙ one-up (F .mid ++ F .under);
-    p-row = F .p-row ∙ one-up (F .mid);
-    cut =
-        agrees-next row (depth N (parent N x)) (label N x) (ap (λ (k : ℕ). departsAt row k (label N x)) (sym fork-deep) ∙ l)
-        ∙ ap (λ (k : ℕ). label N x ∷ drop k row) (sym fork-deep) ∙ ap (λ (r : List ℕ). label N x ∷ r) (F .cut);
-    whole = F .whole;
-    turn = F .turn;
-  }
-
-  on : (s : Bool) → departsAt row (depth N x) (label N x) ≡ s → Forking N row e (parent N x) (cond s (parent N x) p) (cond s x b)
-  on true l = fork-turn l
-  on false l = fork-keep l
-
-  pub fork-on : {d y q p′ b′ : ℕ} {s : Bool} → d ≡ depth N x → y ≡ label N x → s ≡ departsAt row d y →
-      q ≡ parent N x → p′ ≡ cond s q p → b′ ≡ cond s x b → Forking N row e q p′ b′
-  fork-on {d} {y} {q} {p′} {b′} {s} hd hy hs hq hp hb =
-      let l : departsAt row (depth N x) (label N x) ≡ s = rw (← hd, ← hy) (sym hs) in
-      rw (hp, hb, hq) (on s l)
-
-module _ {N row : List ℕ} {n x p b : ℕ} (R : Appendable N n row) (F : Forking N row (n - 1) x p b) (top-x : x ≡ 0) where
   abbrev S : Shape mostPlace N
-  S = R .enters .shape
+  S = A .enters .shape
 
-  root : rowOf N x ≡ []
-  root = ap (rowOf N) top-x ∙ row-root (climb S)
-
-  p-live : Live N p
-  p-live = edge-live S (F .edge-p)
-
-  pub fork-home : p < size N
-  fork-home = live-inside (climb S) p p-live
-
-  p-mid : rowOf N p ≡ F .mid
-  p-mid = F .p-row ∙ ap (λ (r : List ℕ). r ++ F .mid) root
-
-  whole-row : row ≡ F .mid ++ F .rest
-  whole-row = ap (λ (k : ℕ). drop k row) (sym (ap (depth N) top-x ∙ S .root .no-depth)) ∙ F .cut
-
-  deep : length (F .mid) ≡ depth N p
-  deep = ap length (sym p-mid) ∙ row-length (climb S) p p-live
-
-  the-rest : drop (depth N p) row ≡ F .rest
-  the-rest = ap (λ (k : ℕ). drop k row) (sym deep) ∙ ap (drop (length (F .mid))) whole-row ∙ drop-append-seam (F .mid) (F .rest)
-
-  fork-is : rowOf N p ++ drop (depth N p) row ≡ row
-  fork-is = ap (λ (r : List ℕ). r ++ drop (depth N p) row) p-mid ∙ ap (λ (r : List ℕ). F .mid ++ r) the-rest ∙ sym whole-row
-
-  after : before (F .rest) (F .under) ≡ false
-  after =
-      let u : rowOf N (n - 1) ≡ F .mid ++ F .under = F .last-row ∙ ap (λ (r : List ℕ). r ++ (F .mid ++ F .under)) root in
-      sym (before-common (F .mid) (F .rest) (F .under)) ∙ ap (λ (r : List ℕ). before r (F .mid ++ F .under)) (sym whole-row)
-      ∙ ap (before row) (sym u) ∙ R .order
-
-  greater : 0 < b → (depth N p < length row) × (label N b < getD row (depth N p) 0)
-  greater g =
-      let T : Turn N p b (F .under) (F .rest) = F .turn g in
-      let w = departed-greater (F .rest) (F .under) (T .tail) (label N b) after (T .is) (T .other) in
-      let i : depth N p < length row = omega (arith, w .0, ap length the-rest, length-drop (depth N p) row) in
-      let c : getD (F .rest) 0 0 ≡ getD row (depth N p) 0 = ap (λ (r : List ℕ). getD r 0 0) (sym the-rest ∙ drop-cons row (depth N p) 0 i) in
-      (i, omega (arith, w .1, c))
-
-  is-behind : LastChild N p b (getD row (depth N p) 0)
-  is-behind = record {
-    none = λ z. ap (child N) (F .whole z) ∙ R .last .lone;
-    used = λ g. F .turn g .used;
-    mine = λ g. F .turn g .mine;
-    last = λ g. F .turn g .last;
-    less = λ g. greater g .1;
+  pub climb-start : {d : ℕ} → d ≡ depth N (n - 1) → Climbing N (n - 1) k (n - 1) 0 d
+  climb-start e = record {
+    edge = A .entered .edge;
+    deep = e;
+    high =
+        omega (
+          arith,
+          R .same,
+          agreed-left (rowOf N (n - 1)) row,
+          row-length (climb S) (n - 1) (edge-live S (A .entered .edge)),
+        );
+    under = [];
+    last-row = sym (append-nil (rowOf N (n - 1)));
+    whole = λ _. refl;
+    turn = λ g. absurd (omega arith);
   }
 
-  lacking : lacks N p (drop (depth N p) row) ≡ length (drop (depth N p) row)
-  lacking = ⊎-elim
-      (λ (k : length row ≤ depth N p). rw (drop-of-length-le row k) (lacks-none N p))
-      (λ (k : depth N p < length row). rw (drop-cons row (depth N p) 0 k)
-      (lacks-new N p (getD row (depth N p) 0) (drop (suc (depth N p)) row) (behind-new S fork-home is-behind)))
-      (le-or (length row) (depth N p))
+  module _ {p b d : ℕ} (C : Climbing N (n - 1) k p b d) where
+    p-live : Live N p
+    p-live = edge-live S (C .edge)
 
-  appends : Appends N row p b (depth N p) n
-  appends = record {
-    packed = R .last .packed;
-    edge = F .edge-p;
-    grows = record {
-      enters = record {
-        shape = S;
-        live = p-live;
-        row = subst (GoodRow mostPlace) (ap (λ (r : List ℕ). r ++ row) (row-root (climb S)) ∙ sym fork-is) (R .enters .row);
-        room = omega (arith, R .enters .room, lacks-down S p p-live (drop (depth N p) row), ap (lacks N 0) fork-is);
-      };
-      missing = lacking;
-    };
-    is = fork-is;
-    behind = is-behind;
-    left = λ g. greater g .0;
-    home = F .whole;
-  }
+    pub climb-home : p < size N
+    climb-home = live-inside (climb S) p p-live
 
-  pub fork-appends : {d : ℕ} → d ≡ depth N p → Appends N row p b d n
-  fork-appends e = rw e appends
+    module _ (h : k < d) where
+      below-root : p ≡ 0 → ⊥
+      below-root z = omega (arith, C .deep, ap (depth N) z, S .root .no-depth)
 
-  pub fork-enters : {d : ℕ} {M : List ℕ} (t : ℕ) → d ≡ depth N p → M ≡ enter N p (drop d row) t → M ≡ enter N 0 row t
-  fork-enters {d} t e m =
-      m ∙ ap (λ (k : ℕ). enter N p (drop k row) t) e ∙ sym (enter-down S t p p-live (drop (depth N p) row))
-      ∙ ap (λ (r : List ℕ). enter N 0 r t) fork-is
+      abbrev up : EdgeStep N p
+      up = edge-step (C .edge) below-root
+
+      pub climb-on : {q : ℕ} → q ≡ parent N p → Climbing N (n - 1) k q p (d - 1)
+      climb-on e = rw e (record {
+        edge = up .edge;
+        deep = omega (arith, C .deep, S .good p (up .used) .deeper);
+        high = omega arith;
+        under = label N p ∷ C .under;
+        last-row =
+            C .last-row ∙ ap (λ (r : List ℕ). r ++ C .under) (row-step (climb S) p (up .used))
+            ∙ append-assoc (rowOf N (parent N p)) (label N p ∷ []) (C .under);
+        whole = λ z. absurd (below-root z);
+        turn = λ _. record { used = up .used; mine = refl; last = up .last; tail = C .under; is = refl };
+      })
+
+    module _ (h : d ≤ k) where
+      long : length (rowOf N p) ≡ k
+      long = row-length (climb S) p p-live ∙ omega (arith, C .deep, C .high)
+
+      fork-is : rowOf N p ++ drop k row ≡ row
+      fork-is =
+          let a : rowOf N p ≡ take k (rowOf N (n - 1)) =
+          sym (take-append-seam (rowOf N p) (C .under)) ∙ ap₂ take long (sym (C .last-row)) in
+          let s : take k (rowOf N (n - 1)) ≡ take k row = rw (R .same) (agreed-same (rowOf N (n - 1)) row) in
+          ap (λ (r : List ℕ). r ++ drop k row) (a ∙ s) ∙ take-append-drop k row
+
+      after : before (drop k row) (C .under) ≡ false
+      after =
+          sym (before-common (rowOf N p) (drop k row) (C .under)) ∙ ap₂ before fork-is (sym (C .last-row)) ∙ A .order
+
+      -- the row does not go on as the last one
+      other : (y : ℕ) (tail ls : List ℕ) → C .under ≡ y ∷ tail → drop k row ≡ y ∷ ls → ⊥
+      other y tail ls u e =
+          let a : agreed (rowOf N (n - 1)) row ≡ length (rowOf N p) + agreed (y ∷ tail) (y ∷ ls) =
+          ap₂ agreed (C .last-row ∙ ap (λ (r : List ℕ). rowOf N p ++ r) u) (sym fork-is ∙ ap (λ (r : List ℕ). rowOf N p ++ r) e)
+          ∙ agreed-common (rowOf N p) (y ∷ tail) (y ∷ ls) in
+          omega (arith, a, R .same, long, agreed-more y tail ls)
+
+      greater : 0 < b → (k < length row) × (label N b < getD row k 0)
+      greater g =
+          let T : Turn N p b (C .under) = C .turn g in
+          let w = departed-greater (drop k row) (C .under) (T .tail) (label N b) after (T .is) (λ ls. other (label N b) (T .tail) ls (T .is)) in
+          let i : k < length row = omega (arith, w .0, length-drop k row) in
+          let c : getD (drop k row) 0 0 ≡ getD row k 0 = ap (λ (r : List ℕ). getD r 0 0) (drop-cons row k 0 i) in
+          (i, omega (arith, w .1, c))
+
+      is-behind : LastChild N p b (getD row k 0)
+      is-behind = record {
+        none = λ z. ap (child N) (C .whole z) ∙ A .entered .lone;
+        used = λ g. C .turn g .used;
+        mine = λ g. C .turn g .mine;
+        last = λ g. C .turn g .last;
+        less = λ g. greater g .1;
+      }
+
+      lacking : lacks N p (drop k row) ≡ length (drop k row)
+      lacking = ⊎-elim
+          (λ (i : length row ≤ k). rw (drop-of-length-le row i) (lacks-none N p))
+          (λ (i : k < length row). rw (drop-cons row k 0 i)
+          (lacks-new N p (getD row k 0) (drop (suc k) row) (behind-new S climb-home is-behind)))
+          (le-or (length row) k)
+
+      pub climb-appends : Appends N row p b k n
+      climb-appends = record {
+        packed = A .entered .packed;
+        edge = C .edge;
+        grows = record {
+          enters = record {
+            shape = S;
+            live = p-live;
+            row = subst (GoodRow mostPlace) (ap (λ (r : List ℕ). r ++ row) (row-root (climb S)) ∙ sym fork-is) (A .enters .row);
+            room = omega (arith, A .enters .room, lacks-down S p p-live (drop k row), ap (lacks N 0) fork-is);
+          };
+          missing = lacking;
+        };
+        is = fork-is;
+        behind = is-behind;
+        left = λ g. greater g .0;
+        home = C .whole;
+      }
+
+      pub climb-enters : {M : List ℕ} (t : ℕ) → M ≡ enter N p (drop k row) t → M ≡ enter N 0 row t
+      climb-enters t m = m ∙ sym (enter-down S t p p-live (drop k row)) ∙ ap (λ (r : List ℕ). enter N 0 r t) fork-is
+
+-- the row entered last, by its own name
+pub agrees-own : {N last row : List ℕ} {n k : ℕ} → Appendable N n last row → k ≡ agreed last row → Agrees N n row k
+agrees-own {N} {last} {row} {n} A e =
+    let i : last ≡ rowOf N (n - 1) = sym (A .entered .is) in
+    record { appendable = subst (λ (l : List ℕ). Appendable N n l row) i A; same = e ∙ ap (λ (l : List ℕ). agreed l row) i }

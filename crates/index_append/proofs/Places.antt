@@ -3,7 +3,7 @@ use mathlib.Core.Path.{_≡_, refl, sym, ap, subst, _∙_}
 use mathlib.Core.Logic.{⊎-elim, _≢_}
 use mathlib.Core.Bool.{false, cond}
 use mathlib.Core.List.{List, [], _∷_, _++_, append-assoc, List·Memᴰ, List·Memᴰ·not-nil, List·Memᴰ·cases-cons}
-use Prim.Native.Nat.{ℕ, _≤_, _<_}
+use Prim.Native.Nat.{ℕ, _-_, _≤_, _<_}
 use native.Mathlib.Omega.{arith}
 use lib.Dec.{ltb}
 use Rattle.ground.proofs.Laws.{firstFrom-is, first-unique}
@@ -38,6 +38,9 @@ module _ {parts : ℕ} {N : List ℕ} {n : ℕ} (S : Shape parts N) (K : Packed 
         passed = λ i l u. packed-passed i u;
         found = λ u. unnamed-free S n (K .some) u (K .free n (omega arith) u);
       })
+
+pub last-inside : {N : List ℕ} {n : ℕ} → Packed N n → n - 1 < size N
+last-inside K = omega (arith, K .some, K .few)
 
 -- The last of a chain: none has a greater label, and all labels are below what is greater than its
 module _ {N : List ℕ} (B : Siblings N) where

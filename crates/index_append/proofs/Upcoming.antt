@@ -2,14 +2,14 @@
 use mathlib.Core.Path.{_≡_, refl}
 use mathlib.Core.Bool.{Bool, true, false}
 use mathlib.Core.List.{List, [], _∷_}
-use Prim.Native.Nat.{ℕ, _-_}
+use Prim.Native.Nat.{ℕ}
 use native.Mathlib.Omega.{arith}
 use lib.ListN.{length}
 use Rattle.ground.specs.Laid.{zeroed}
 use Rattle.ground.proofs.Laws.{getD-zeros}
 use Rattle.kits.specs.Kits.{mostPlace, before}
 use Rattle.kits.proofs.Order.{before-asymmetric}
-use Rattle.nodes.specs.Nodes.{at, childWord, labelWord, rowOf}
+use Rattle.nodes.specs.Nodes.{at, childWord, labelWord}
 use Rattle.nodes.specs.Inner.{Sized, Shape}
 use Rattle.nodes.specs.Held.{Kit}
 use Rattle.nodes.proofs.Sorted.{Every, Rising, also, ahead, every-map, mem-every}
@@ -23,11 +23,11 @@ use Rattle.index_append.specs.Inner.{top, LastEntered, Appendable}
 abbrev pub NotBefore : List ℕ → Kit → Type 0
 NotBefore r k = before (k .row) r ≡ false
 
--- the first n nodes are used, and the kits ks come behind the one entered last, in listing order
-pub record Upcoming (N : List ℕ) (n : ℕ) (ks : List Kit) : Type 0 where
-  pub last : LastEntered N n (rowOf N (n - 1))
+-- the first n nodes are used, and the kits ks come behind the row entered last, in listing order
+pub record Upcoming (N : List ℕ) (n : ℕ) (last : List ℕ) (ks : List Kit) : Type 0 where
+  pub entered : LastEntered N n last
   pub rises : Rising Earlier ks
-  pub behind : Every (NotBefore (rowOf N (n - 1))) ks
+  pub behind : Every (NotBefore last) ks
 
 not-before-empty : (r : List ℕ) → before r [] ≡ false
 unfolding before
@@ -41,7 +41,7 @@ not-back a b h = go (before b a) refl
     go false e = refl
     go true e = absurd (before-asymmetric a b h e)
 
-pub zeroed-last : (N : List ℕ) → Sized N → LastEntered (zeroed N) 1 []
+zeroed-last : (N : List ℕ) → Sized N → LastEntered (zeroed N) 1 []
 zeroed-last N z =
     let S : Shape mostPlace (zeroed N) = zeros-sound N mostPlace z .shape in
     record {
@@ -56,27 +56,21 @@ zeroed-last N z =
       is = row-root (climb S);
     }
 
-pub upcoming-start : (N : List ℕ) (ks : List Kit) → Sized N → Rising Earlier ks → Upcoming (zeroed N) 1 ks
-upcoming-start N ks z r =
-    let L : LastEntered (zeroed N) 1 [] = zeroed-last N z in
-    record {
-      last = rw (L .is) L;
-      rises = r;
-      behind = rw (L .is) (mem-every ks (λ k m. not-before-empty (k .row)));
-    }
+pub upcoming-start : (N : List ℕ) (ks : List Kit) → Sized N → Rising Earlier ks → Upcoming (zeroed N) 1 [] ks
+upcoming-start N ks z r = record { entered = zeroed-last N z; rises = r; behind = mem-every ks (λ k m. not-before-empty (k .row)) }
 
-module _ {N : List ℕ} {n : ℕ} {k : Kit} {ks : List Kit} (O : Upcoming N n (k ∷ ks)) where
-  pub upcoming-ready : Enters mostPlace N 0 (k .row) → Appendable N n (k .row)
-  upcoming-ready E = record { enters = E; last = O .last; order = first-of (O .behind) }
+module _ {N last : List ℕ} {n : ℕ} {k : Kit} {ks : List Kit} (U : Upcoming N n last (k ∷ ks)) where
+  pub upcoming-ready : Enters mostPlace N 0 (k .row) → Appendable N n last (k .row)
+  upcoming-ready E = record { enters = E; entered = U .entered; order = first-of (U .behind) }
     where
       first-of : {P : Kit → Type 0} → Every P (k ∷ ks) → P k
       first-of (also p e) = p
 
-  pub upcoming-next : {M : List ℕ} {n′ : ℕ} → LastEntered M n′ (k .row) → Upcoming M n′ ks
-  upcoming-next {M} {n′} L = record {
-    last = rw (L .is) L;
-    rises = rest-rises (O .rises);
-    behind = rw (L .is) (every-map (λ (x : Kit) (e : Earlier k x). not-back (k .row) (x .row) e) (rest-earlier (O .rises)));
+  pub upcoming-next : {M : List ℕ} {n′ : ℕ} → LastEntered M n′ (k .row) → Upcoming M n′ (k .row) ks
+  upcoming-next L = record {
+    entered = L;
+    rises = rest-rises (U .rises);
+    behind = every-map (λ (x : Kit) (e : Earlier k x). not-back (k .row) (x .row) e) (rest-earlier (U .rises));
   }
     where
       rest-rises : Rising Earlier (k ∷ ks) → Rising Earlier ks

@@ -1,12 +1,12 @@
 -- Inner: no promise of the house rests on what stands here; inner contracts and proofs speak by it.
 -- Kits entered in listing order into a table that was zeroed: what is known of the table between two of them, and where the next one goes.
 use mathlib.Core.Path.{_≡_}
-use mathlib.Core.Bool.{Bool, false, _||_, not}
+use mathlib.Core.Bool.{false}
 use mathlib.Core.List.{List, _++_}
 use Prim.Native.Nat.{ℕ, _-_, _≤_, _<_}
 use lib.ListN.{length, getD, drop}
-use lib.Dec.{ltb, eqb}
 use Rattle.kits.specs.Kits.{mostPlace, before}
+use Rattle.kits.specs.Inner.{agreed}
 use Rattle.nodes.specs.Nodes.{parent, child, next, label, size, rowOf}
 use Rattle.nodes.specs.Inner.{Used}
 use Rattle.index_insert.specs.Inner.{Enters, Grows}
@@ -38,15 +38,16 @@ pub record LastChild (N : List ℕ) (p b l : ℕ) : Type 0 where
   pub last : 0 < b → next N b ≡ 0
   pub less : 0 < b → label N b < l
 
--- what is asked of a table whose first n nodes are used, and of a row that is not before the one entered last
-pub record Appendable (N : List ℕ) (n : ℕ) (row : List ℕ) : Type 0 where
+-- a row can be entered that is not before the one entered last, in a table whose first n nodes are used
+pub record Appendable (N : List ℕ) (n : ℕ) (last row : List ℕ) : Type 0 where
   pub enters : Enters mostPlace N 0 row
-  pub last : LastEntered N n (rowOf N (n - 1))
-  pub order : before row (rowOf N (n - 1)) ≡ false
+  pub entered : LastEntered N n last
+  pub order : before row last ≡ false
 
--- a row has not the label y at depth d
-unfoldable pub departsAt : List ℕ → ℕ → ℕ → Bool
-departsAt r d y = ltb (length r) d || not (eqb (getD r (d - 1) 0) y)
+-- and agrees with that one in the first k places, not further
+pub record Agrees (N : List ℕ) (n : ℕ) (row : List ℕ) (k : ℕ) : Type 0 where
+  pub appendable : Appendable N n (rowOf N (n - 1)) row
+  pub same : k ≡ agreed (rowOf N (n - 1)) row
 
 -- the row's labels from d on can be entered below p, behind its child b, with the nodes from n on
 pub record Appends (N row : List ℕ) (p b d n : ℕ) : Type 0 where

@@ -142,7 +142,7 @@ fn record_good(tag: usize, tags: &[u8; TAGS], list: &[u16], parts: u16) -> bool
 }
 
 // The row before the first record's.
-fn no_row() -> Row
+pub fn no_row() -> Row
     ensures { λ r. ⌜ (r .len ≡ 0) × (unitsIn r ≡ []) ⌝ }
 {
     Row {

@@ -55,27 +55,30 @@ enter-first : (N : List ℕ) (k : Kit) (ks : List Kit) → enterAll N (k ∷ ks)
 unfolding enterAll
 enter-first N k ks = refl
 
--- k of m records are entered in the first n nodes, and the next starts at a place: the rest can be entered, and then the table is what all of
--- them make of the table Z
-pub record Filling (s : List ℕ) (from m : ℕ) (Z nodes : List ℕ) (at n k : ℕ) : Type 0 where
+-- k of m records are entered in the first n nodes, prev is the row of the last one, and the next starts at a place: the rest can be entered, and
+-- then the table is what all of them make of the table Z
+pub record Filling (s : List ℕ) (from m : ℕ) (Z nodes : List ℕ) (prev : Row) (at n k : ℕ) : Type 0 where
   pub rest : Fillable mostPlace (kitsRead s from m) nodes (kitsRead s at (m - k))
   pub goes : enterAll nodes (kitsRead s at (m - k)) ≡ enterAll Z (kitsRead s from m)
-  pub upcoming : Upcoming nodes n (kitsRead s at (m - k))
+  pub upcoming : Upcoming nodes n (unitsIn prev) (kitsRead s at (m - k))
+  pub short : prev .len ≤ mostUnits
   pub inside : endRead s at (m - k) ≤ length s
 
-pub filling-start : {s : List ℕ} {from m : ℕ} {N Z : List ℕ} → KitsStand s from m N → Z ≡ zeroed N → Filling s from m Z Z from 1 0
-filling-start {s} {from} {m} {N} {Z} K e = record {
+pub filling-start : {s : List ℕ} {from m : ℕ} {N Z : List ℕ} {prev : Row} → KitsStand s from m N → Z ≡ zeroed N →
+    (prev .len ≡ 0) × (unitsIn prev ≡ []) → Filling s from m Z Z prev from 1 0
+filling-start {s} {from} {m} {N} {Z} K e none = record {
   rest =
       rw (e, sub-zero) (kits-fillable (K .parts) mostPlace (kitsRead s from m) N (K .few) (K .good) (K .unlike) (K .rises) (K .fits)
       (K .room));
   goes = rw sub-zero;
   upcoming =
-      rw (e, sub-zero)
+      rw (e, none .1, sub-zero)
       (upcoming-start N (kitsRead s from m) (length-sized N (K .fits)) (rising-earlier (kitsRead s from m) (K .rises)));
+  short = omega (arith, none .0);
   inside = rw sub-zero (K .inside);
 }
 
-module _ {s : List ℕ} {from m : ℕ} {Z nodes : List ℕ} {at n k : ℕ} (F : Filling s from m Z nodes at n k) where
+module _ {s : List ℕ} {from m : ℕ} {Z nodes : List ℕ} {prev : Row} {at n k : ℕ} (F : Filling s from m Z nodes prev at n k) where
   pub filling-end : m ≡ k → nodes ≡ enterAll Z (kitsRead s from m)
   filling-end e =
       let z : m - k ≡ 0 = omega arith in
@@ -111,19 +114,8 @@ module _ {s : List ℕ} {from m : ℕ} {Z nodes : List ℕ} {at n k : ℕ} (F : 
           room = acceptable next .room;
         }
 
-    upcoming-now : Upcoming nodes n (kit ∷ kitsRead s place (m - (k + 1)))
-    upcoming-now = subst (Upcoming nodes n) (kits-step s at k m h) (F .upcoming)
-
-    on : {M : List ℕ} {n′ : ℕ} → M ≡ enter nodes 0 (kit .row) (kit .tag) → LastEntered M n′ (kit .row) →
-        Filling s from m Z M place n′ (k + 1)
-    on e l = record {
-      rest = rw e (fill-next next);
-      goes =
-          ap (λ (x : List ℕ). enterAll x (kitsRead s place (m - (k + 1)))) e ∙ sym (enter-first nodes kit (kitsRead s place (m - (k + 1))))
-          ∙ ap (enterAll nodes) (sym (kits-step s at k m h)) ∙ F .goes;
-      upcoming = upcoming-next upcoming-now l;
-      inside = omega (arith, F .inside, end-step s at k m h);
-    }
+    upcoming-now : Upcoming nodes n (unitsIn prev) (kit ∷ kitsRead s place (m - (k + 1)))
+    upcoming-now = subst (Upcoming nodes n (unitsIn prev)) (kits-step s at k m h) (F .upcoming)
 
     -- the record's row and tag, as they are read
     module _ (row : Row) (e : row ≡ fixedRow (units (listAt s at))) (t : ℕ) (f : t ≡ fromBytes (take 2 (drop at s))) where
@@ -133,12 +125,26 @@ module _ {s : List ℕ} {from m : ℕ} {Z nodes : List ℕ} {at n k : ℕ} (F : 
       is-tag : t ≡ kit .tag
       is-tag = f ∙ sym (tag-is s at record-whole)
 
-      pub may-append : (row .len ≤ mostUnits) × Appendable nodes n (unitsIn row)
-      may-append = (rw e units-short, subst (Appendable nodes n) (sym is-row) (upcoming-ready upcoming-now enters))
+      may-be : row .len ≤ mostUnits
+      may-be = rw e units-short
+
+      pub may-append : ((prev .len ≤ mostUnits) × (row .len ≤ mostUnits)) × Appendable nodes n (unitsIn prev) (unitsIn row)
+      may-append =
+          ((F .short, may-be), subst (Appendable nodes n (unitsIn prev)) (sym is-row) (upcoming-ready upcoming-now enters))
 
       pub filling-on : {M : List ℕ} {n′ : ℕ} → M ≡ enter nodes 0 (unitsIn row) t → LastEntered M n′ (unitsIn row) → (r : ℕ) →
-          r ≡ recordEnd s at → Filling s from m Z M r n′ (k + 1)
+          r ≡ recordEnd s at → Filling s from m Z M row r n′ (k + 1)
       filling-on {M} {n′} p l r q =
           let u : r ≡ place = q ∙ sym (end-whole s at record-whole) ∙ (omega (arith, size-at s at)) in
           let v : M ≡ enter nodes 0 (kit .row) (kit .tag) = rw (is-row, is-tag) at p in
-          rw u (on v (subst (LastEntered M n′) is-row l))
+          rw u (record {
+            rest = rw v (fill-next next);
+            goes =
+                ap (λ (x : List ℕ). enterAll x (kitsRead s place (m - (k + 1)))) v
+                ∙ sym (enter-first nodes kit (kitsRead s place (m - (k + 1)))) ∙ ap (enterAll nodes) (sym (kits-step s at k m h)) ∙ F .goes;
+            upcoming =
+                subst (λ (x : List ℕ). Upcoming M n′ x (kitsRead s place (m - (k + 1)))) (sym is-row)
+                (upcoming-next upcoming-now (subst (LastEntered M n′) is-row l));
+            short = may-be;
+            inside = omega (arith, F .inside, end-step s at k m h);
+          })

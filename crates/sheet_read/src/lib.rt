@@ -33,6 +33,7 @@ use sheet::row_in;
 use sheet::two_at;
 use sheet_judge::Judged;
 use sheet_judge::judge;
+use sheet_judge::no_row;
 
 // Sets the number that stands at a place of the sheet, with its length, into slot k: where it ends.
 fn enter_number(reg: &mut [u8], s: &[u8], at: usize, k: usize) -> usize
@@ -65,11 +66,14 @@ fn fill_nodes(nodes: &mut [u16], s: &[u8], from: usize, m: usize)
     ensures { λ _. ⌜ now (nodes .exit) ≡ enterAll (zeroed (now (nodes .entry))) (kitsRead (now (s .entry)) from m) ⌝ }
 {
     clear_nodes(nodes);
+    let mut prev = no_row();
     let mut at = from;
     let mut n = 1;
     let mut k = 0;
     while k < m {
-        n = append_row(nodes, row_in(s, at), n, two_at(s, at));
+        let row = row_in(s, at);
+        n = append_row(nodes, prev, row, n, two_at(s, at));
+        prev = row;
         at = record_end(s, at);
         k += 1;
     }

@@ -11,21 +11,28 @@ use Rattle.sheet_read.proofs.fill_nodes.Statement.{statement}
 use Rattle.sheet_read.proofs.fill_nodes.Tie as tie
 
 abbrev Inv-loop : tie.InvT-loop
-Inv-loop nodes₀ s from m at₀ n₀ k₀ nodes at n k = (k ≤ m) × Filling s from m nodes₀ nodes at n k × (length nodes ≡ length nodes₀)
+Inv-loop nodes₀ s from m prev₀ at₀ n₀ k₀ nodes prev at n k = (k ≤ m) × Filling s from m nodes₀ nodes prev at n k × (length nodes ≡ length nodes₀)
 
 abbrev μ-loop : tie.MeasureT-loop
-μ-loop nodes₀ s from m at₀ n₀ k₀ nodes at n k = m - k
+μ-loop nodes₀ s from m prev₀ at₀ n₀ k₀ nodes prev at n k = m - k
 
 clear-nodes-requires : tie.Need-clear-nodes-requires Inv-loop μ-loop
 clear-nodes-requires c κs = tt
 
+no-row-requires : tie.Need-no-row-requires Inv-loop μ-loop
+no-row-requires c κs = tt
+
 loop-holds : tie.Need-loop-holds Inv-loop μ-loop
 loop-holds c =
+    let at-clear-nodes : tie.After-clear-nodes Inv-loop μ-loop = search in
     let start : tie.Start Inv-loop μ-loop = search in
-    (omega arith, filling-start (start .pre) (c .before .before .clear-nodes .ensures), refl)
+    (omega arith, filling-start (start .pre) (at-clear-nodes .clear-nodes .ensures) (c .no-row .ensures), refl)
 
 row-in-requires : tie.Need-row-in-requires Inv-loop μ-loop
-row-in-requires c κs = let F = c .before .before .loop .inv .1 in (record-whole F (omega arith), units-short F (omega arith))
+row-in-requires c κs =
+    let at-loop : tie.At-loop Inv-loop μ-loop = search in
+    let F = at-loop .loop .inv .1 in
+    (record-whole F (omega arith), units-short F (omega arith))
 
 two-at-requires : tie.Need-two-at-requires Inv-loop μ-loop
 two-at-requires c κs =
@@ -34,9 +41,11 @@ two-at-requires c κs =
 
 append-row-requires : tie.Need-append-row-requires Inv-loop μ-loop
 append-row-requires c κs =
+    let at-two-at : tie.After-two-at Inv-loop μ-loop = search in
+    let at-row-in : tie.After-row-in Inv-loop μ-loop = search in
     let at-loop : tie.At-loop Inv-loop μ-loop = search in
-    may-append (at-loop .loop .inv .1) (omega arith) (c .before .row-in .result) (c .before .row-in .ensures) (c .two-at .result)
-    (c .two-at .ensures)
+    may-append (at-loop .loop .inv .1) (omega arith) (at-row-in .row-in .result) (at-row-in .row-in .ensures)
+    (at-two-at .two-at .result) (at-two-at .two-at .ensures)
 
 record-end-requires : tie.Need-record-end-requires Inv-loop μ-loop
 record-end-requires c κs =
@@ -82,6 +91,7 @@ fill-nodes-spec =
     Inv-loop
     μ-loop
     clear-nodes-requires
+    no-row-requires
     loop-holds
     row-in-requires
     two-at-requires
