@@ -1,8 +1,8 @@
 -- Inner: no promise of the house rests on what stands here; inner contracts and proofs speak by it.
 -- Contents that fit the format, the format's sizes, and what stands in a sheet from a place on.
 use mathlib.Core.Bool.{Bool, true, _&&_, cond}
-use mathlib.Core.List.{List, [], _∷_}
-use Prim.Native.Nat.{ℕ, zero, suc, _+_, _*_, _≤_}
+use mathlib.Core.List.{List, [], _∷_, _++_}
+use Prim.Native.Nat.{ℕ, zero, suc, _+_, _*_, _/_, _≤_}
 use lib.ListN.{length, take, drop, getD}
 use lib.Dec.{leb, ltb, eqb}
 use Rattle.ground.specs.Lists.{allb, every, distinct, eqList}
@@ -11,6 +11,7 @@ use Rattle.repeats.specs.Inner.{numberHere, nextPlace}
 use Rattle.register.specs.Number.{goodNumber}
 use Rattle.kits.specs.Kits.{goodList, listOf, before, mostUnits}
 use Rattle.nodes.specs.Held.{Kit, tagsOf}
+use Rattle.sheet.specs.Bytes.{two}
 use Rattle.sheet.specs.Sheet.{Contents, placeBytes, lineBytes, countAt, linesAt}
 use Rattle.sheet.specs.Reading.{recordSize}
 
@@ -59,6 +60,10 @@ mostRecord = 131
 
 abbrev pub kitOf : List ℕ → ℕ → Kit
 kitOf r t = record { row = r; tag = t }
+
+-- a tag, a line count and the bytes of the lines
+unfoldable pub recordBytes : ℕ → List ℕ → List ℕ
+recordBytes t ls = two t ++ (length ls / lineBytes placeBytes ∷ ls)
 
 ------------------------------------------------------------------------
 -- Numbers in a sheet
