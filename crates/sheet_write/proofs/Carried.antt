@@ -17,7 +17,7 @@ use Rattle.sheet.specs.Bytes.{inBytes}
 use Rattle.sheet.specs.Sheet.{placeBytes, lineItems}
 use Rattle.sheet.proofs.Numbers.{in-length}
 use Rattle.sheet_write.specs.declared.EndLine.{EndLine}
-use Rattle.sheet_write.specs.Inner.{noLine, endItem, withUnit, Carried, carry, carryAll, carried, endOf, rowBytes, Stands, Kept}
+use Rattle.sheet_write.specs.Inner.{noLine, endItem, withUnit, Carried, carry, carryAll, carried, endOf, Stands, Kept}
 
 -- What a unit makes of a line
 module _ (e : EndLine) (x : ℕ) where

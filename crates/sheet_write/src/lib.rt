@@ -11,9 +11,9 @@ ghost use Rattle.ground.specs.Limits.{mostParts, byteLimit};
 ghost use Rattle.register.specs.Register.{slotBytes, slotCount, numberAt};
 ghost use Rattle.register.specs.Number.{longestNumber};
 ghost use Rattle.register.specs.Inner.{Ready, Short};
-ghost use Rattle.nodes.specs.Nodes.{parent, size, nodesOf, mostNodes};
+ghost use Rattle.nodes.specs.Nodes.{parent, nodesOf, mostNodes};
 ghost use Rattle.nodes.specs.Inner.{walkAll, Live, Shape, Sound};
-ghost use Rattle.sheet.specs.Sheet.{mark, placeBytes, lineBytes, contentsOf, encode};
+ghost use Rattle.sheet.specs.Sheet.{placeBytes, lineBytes, contentsOf, encode};
 ghost use Rattle.sheet.specs.Calls.{writingOf};
 ghost use Rattle.sheet.specs.Inner.{mostItem, mostRecord};
 ghost use Rattle.sheet_write.specs.Inner.{nodeRow, headItems, numbersFrom, Counted, kitsAt, recordsAt, ownRecord, recordsFrom};
@@ -254,8 +254,8 @@ fn put_head(out: &mut [u8], parts: u16) -> usize
     at + put_two(&mut out[at..], parts)
 }
 
-// All kit records: the root's own, and those of all that is below it.
-fn put_below_root(out: &mut [u8], nodes: &[u16], lines: &mut [u8]) -> usize
+// All kit records: the root's own, of a row without lines, and those of all that is below it.
+fn put_from_root(out: &mut [u8], nodes: &[u16], lines: &mut [u8]) -> usize
     requires { ⌜ Shape mostPlace (now nodes) ⌝ ∗ ⌜ length (now lines) ≡ rowBytes ⌝ ∗
         ⌜ length (recordsAt (now nodes) (walkAll (now nodes))) ≤ length (now out) ⌝ }
     ensures { λ r. ⌜ Put (now (out .entry)) 0 (recordsAt (now (nodes .entry)) (walkAll (now (nodes .entry)))) r (now (out .exit)) ⌝ }
@@ -264,12 +264,13 @@ fn put_below_root(out: &mut [u8], nodes: &[u16], lines: &mut [u8]) -> usize
     put_kits(out, own, nodes, child_at(nodes, 0), lines, EndLine::none())
 }
 
+// All kit records, with room for the lines of a row.
 fn put_records(out: &mut [u8], nodes: &[u16]) -> usize
     requires { ⌜ Shape mostPlace (now nodes) ⌝ ∗ ⌜ length (recordsAt (now nodes) (walkAll (now nodes))) ≤ length (now out) ⌝ }
     ensures { λ r. ⌜ Put (now (out .entry)) 0 (recordsAt (now (nodes .entry)) (walkAll (now (nodes .entry)))) r (now (out .exit)) ⌝ }
 {
     let mut lines = [0; ROW_BYTES];
-    put_below_root(out, nodes, &mut lines)
+    put_from_root(out, nodes, &mut lines)
 }
 
 // All items of a sheet, one behind the other.

@@ -1,5 +1,5 @@
 -- With the tag and the line count down only the lines are to come.
-use mathlib.Core.Path.{_≡_, refl}
+use mathlib.Core.Path.{refl}
 use Prim.Native.Nat.{_+_, _/_}
 use native.Mathlib.Omega.{arith}
 use lib.ListN.{length, set, length-set}

@@ -1,6 +1,5 @@
 -- The two lines that can differ are set down; the record is of the lines that then stand.
 use native.Mathlib.Omega.{arith}
-use lib.ListN.{length}
 use Rattle.sheet_write.proofs.Walked.{above-room, end-room, own-stands, above-kept, own-lines}
 use borrow.Author.Needs.{needs}
 use Rattle.sheet_write.proofs.put_node.Statement.{statement}

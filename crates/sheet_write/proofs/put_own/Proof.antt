@@ -3,9 +3,8 @@ use mathlib.Core.Path.{_≡_, ap, sym, _∙_}
 use native.Mathlib.Omega.{arith}
 use Prim.Native.Nat.{_+_, _≤_}
 use lib.ListN.{length}
-use Rattle.ground.specs.Laid.{Put}
 use Rattle.ground.proofs.Laid.{room}
-use Rattle.ground.proofs.Put.{back, put-none, put-same, put-length, put-lent}
+use Rattle.ground.proofs.Put.{put-none, put-same, put-lent}
 use Rattle.nodes.proofs.Rows.{climb, live-inside}
 use Rattle.sheet.specs.Inner.{recordBytes}
 use Rattle.sheet_write.specs.Inner.{ownRecord}

@@ -1,11 +1,5 @@
 -- The root's own record, and those of all that is below it.
-use mathlib.Core.Path.{_≡_, refl, ap}
-use Prim.Native.Nat.{_+_}
 use native.Mathlib.Omega.{arith}
-use lib.ListN.{length, length-append}
-use Rattle.nodes.specs.Nodes.{child}
-use Rattle.nodes.specs.Inner.{walkAll}
-use Rattle.sheet_write.specs.Inner.{ownRecord, recordsAt, recordsFrom}
 use Rattle.sheet_write.proofs.Records.{root-long}
 use Rattle.sheet_write.proofs.Whole.{records-most}
 use Rattle.sheet_write.proofs.Walked.{root-live, root-end, root-reached}

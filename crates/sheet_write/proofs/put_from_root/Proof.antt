@@ -5,8 +5,8 @@ use Rattle.ground.proofs.Put.{put-put, put-same, put-length}
 use Rattle.sheet_write.proofs.Records.{root-parts, root-long}
 use Rattle.sheet_write.proofs.Walked.{root-live, root-lines, root-reached, root-stands}
 use borrow.Author.Needs.{needs}
-use Rattle.sheet_write.proofs.put_below_root.Statement.{statement}
-use Rattle.sheet_write.proofs.put_below_root.Tie as tie
+use Rattle.sheet_write.proofs.put_from_root.Statement.{statement}
+use Rattle.sheet_write.proofs.put_from_root.Tie as tie
 
 sub-put-own : tie.Need-sub-put-own
 sub-put-own c = search needs
@@ -63,8 +63,8 @@ returns c =
     put-same (put-put (at-put-own .put-own .ensures) (at-put-kits .put-kits .ensures .0))
     (sym (root-parts (start .args .nodes .now) (at-child-at .child-at .ensures .0)))
 
-pub put-below-root-spec : {M : Type 1} → statement M
-put-below-root-spec =
+pub put-from-root-spec : {M : Type 1} → statement M
+put-from-root-spec =
     tie.close
     (tie.spec
     sub-put-own
