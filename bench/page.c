@@ -90,10 +90,19 @@ static void ask_row(const char *what, int ask, int plain)
     row(what, &ns[INNER], &ns[OURS + plain], 1);
 }
 
+// The worst list for a family: its last part alone, so that no branch can be left.
+static void last_part_wanted(void)
+{
+    List last = {.n = 2, .w = {(uint16_t)t.parts, 1}};
+    for (int q = 0; q < QUERIES; q++) t.containing[q] = last;
+}
+
 static void ask_rows(void)
 {
     family(&t, "W1 (12,2) at 100%", 12, 2, 1);
     ask_row("all containing, inner: every kit of 12 parts, 4,096", ALL_CONTAINING, C_BEST);
+    last_part_wanted();
+    ask_row("all containing, inner: the same, its last part alone wanted", ALL_CONTAINING, C_BEST);
     shop(MOST_NODES);
     ask_row("all within, inner: a shop, bins of 200 parts", ALL_WITHIN, C_BEST);
     ask_row("all containing, inner: a shop, lists of 1 to 3 parts", ALL_CONTAINING, C_BEST);
