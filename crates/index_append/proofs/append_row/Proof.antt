@@ -5,6 +5,7 @@ use lib.ListN.{length, length-map}
 use lib.Seq.{length-take-le}
 use Rattle.kits.specs.Kits.{mostUnits}
 use Rattle.index_append.proofs.Fork.{agrees-own}
+use borrow.Author.Needs.{needs}
 use Rattle.index_append.proofs.append_row.Statement.{statement}
 use Rattle.index_append.proofs.append_row.Tie as tie
 
@@ -13,7 +14,7 @@ sixty-four : (c : tie.Start) → length (c .args .row .places) ≡ mostUnits
 sixty-four c = sym (length-map (c .args .row .places) (λ v. v)) ∙ c .good .1 .1 .0 .1 .1 .0 .1 .0 .1
 
 agree-requires : tie.Need-agree-requires
-agree-requires c κs = let start : tie.Start = search in start .pre .0
+agree-requires c κs = search needs
 
 array-share-prefix-places : tie.Need-array-share-prefix-places
 array-share-prefix-places c = let start : tie.Start = search in omega (arith, sixty-four start)
