@@ -53,9 +53,12 @@ pub record Counted (R N : List ℕ) (s : Sheet) : Type 0 where
 ------------------------------------------------------------------------
 -- Lines of a row, unit by unit
 
+abbrev pub endLine : ℕ → ℕ → ℕ → EndLine
+endLine a p q = record { at = a; place = p; quantity = q }
+
 -- what the root's row ends in
 abbrev pub noLine : EndLine
-noLine = record { at = 0; place = 0; quantity = 0 }
+noLine = endLine 0 0 0
 
 -- the bytes of what a row ends in
 abbrev pub endItem : EndLine → List ℕ

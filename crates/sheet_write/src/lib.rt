@@ -17,7 +17,7 @@ ghost use Rattle.sheet.specs.Sheet.{placeBytes, lineBytes, contentsOf, encode};
 ghost use Rattle.sheet.specs.Calls.{writingOf};
 ghost use Rattle.sheet.specs.Inner.{mostItem, mostRecord};
 ghost use Rattle.sheet_write.specs.Inner.{nodeRow, headItems, numbersFrom, Counted, kitsAt, recordsAt, ownRecord, recordsFrom};
-ghost use Rattle.sheet_write.specs.Inner.{noLine, endItem, withUnit, endOf, rowBytes, rowLines, Stands, EndsIn, Kept, Reached, StandsAbove};
+ghost use Rattle.sheet_write.specs.Inner.{noLine, endItem, withUnit, endOf, rowBytes, rowLines, Stands, EndsIn, Kept, endLine, Reached, StandsAbove};
 use answers::Answer;
 use ground::copy_in;
 use ground::wide8;
@@ -137,28 +137,37 @@ fn put_node(
     put_own(out, at, nodes, i, &lines[LINE_BYTES..to])
 }
 
-// The records of the kits on the chain that starts at a link, each node's own before those below it: in listing order. `above` is what
-// the row of the node above ends in, and its other lines stand in `lines`.
+// The records of the kits on the chain that starts at a link, each node's own before those below it: in listing order. The row of the node above
+// ends in `quantity` of a place, at `line` among its lines; the others stand in `lines`. (Three numbers go down faster than a struct of them.)
 fn put_kits(
     out: &mut [u8],
     at: usize,
     nodes: &[u16],
     link: usize,
     lines: &mut [u8],
-    above: EndLine,
+    line: usize,
+    place: u16,
+    quantity: u16,
 ) -> usize
-    requires { ⌜ Reached (now nodes) link above ⌝ ∗ ⌜ StandsAbove (now nodes) link (now lines) ⌝ ∗
+    requires { ⌜ Reached (now nodes) link (endLine line place quantity) ⌝ ∗ ⌜ StandsAbove (now nodes) link (now lines) ⌝ ∗
         ⌜ at + length (recordsFrom (now nodes) link) ≤ length (now out) ⌝ }
     ensures { λ r. ⌜ Put (now (out .entry)) at (recordsFrom (now (nodes .entry)) link) r (now (out .exit)) ⌝ ∗
-        ⌜ Kept (above .at) (now (lines .entry)) (now (lines .exit)) ⌝ }
+        ⌜ Kept line (now (lines .entry)) (now (lines .exit)) ⌝ }
 {
     if link == 0 {
         return at;
     }
+    let above = EndLine {
+        at: line,
+        place: place,
+        quantity: quantity,
+    };
     let end = with_unit(above, label_at(nodes, link));
     let own = put_node(out, at, nodes, link, lines, above, end);
-    let below = put_kits(out, own, nodes, child_at(nodes, link), lines, end);
-    put_kits(out, below, nodes, next_at(nodes, link), lines, above)
+    let c = child_at(nodes, link);
+    let below = put_kits(out, own, nodes, c, lines, end.at, end.place, end.quantity);
+    let next = next_at(nodes, link);
+    put_kits(out, below, nodes, next, lines, line, place, quantity)
 }
 
 // The numbers of n slots.
@@ -202,17 +211,23 @@ fn own_size(nodes: &[u16], i: usize, end: EndLine) -> usize
 }
 
 // How many bytes the records of the kits on the chain that starts at a link, and below it, take.
-fn kits_size(nodes: &[u16], link: usize, above: EndLine) -> usize
-    requires { ⌜ Reached (now nodes) link above ⌝ ∗ ⌜ length (recordsFrom (now nodes) link) ≤ mostRecord * mostNodes ⌝ }
+fn kits_size(nodes: &[u16], link: usize, line: usize, place: u16, quantity: u16) -> usize
+    requires { ⌜ Reached (now nodes) link (endLine line place quantity) ⌝ ∗ ⌜ length (recordsFrom (now nodes) link) ≤ mostRecord * mostNodes ⌝ }
     ensures { λ r. ⌜ r ≡ length (recordsFrom (now (nodes .entry)) link) ⌝ }
 {
     if link == 0 {
         return 0;
     }
+    let above = EndLine {
+        at: line,
+        place: place,
+        quantity: quantity,
+    };
     let end = with_unit(above, label_at(nodes, link));
     let own = own_size(nodes, link, end);
-    let below = own + kits_size(nodes, child_at(nodes, link), end);
-    below + kits_size(nodes, next_at(nodes, link), above)
+    let c = child_at(nodes, link);
+    let below = own + kits_size(nodes, c, end.at, end.place, end.quantity);
+    below + kits_size(nodes, next_at(nodes, link), line, place, quantity)
 }
 
 // How many bytes all kit records take.
@@ -222,7 +237,14 @@ fn records_size(nodes: &[u16]) -> usize
 {
     let none = EndLine::none();
     let own = own_size(nodes, 0, none);
-    own + kits_size(nodes, child_at(nodes, 0), none)
+    own
+        + kits_size(
+            nodes,
+            child_at(nodes, 0),
+            none.at,
+            none.place,
+            none.quantity,
+        )
 }
 
 // How many kits there are.
@@ -261,7 +283,18 @@ fn put_from_root(out: &mut [u8], nodes: &[u16], lines: &mut [u8]) -> usize
     ensures { λ r. ⌜ Put (now (out .entry)) 0 (recordsAt (now (nodes .entry)) (walkAll (now (nodes .entry)))) r (now (out .exit)) ⌝ }
 {
     let own = put_own(out, 0, nodes, 0, &lines[0..0]);
-    put_kits(out, own, nodes, child_at(nodes, 0), lines, EndLine::none())
+    let c = child_at(nodes, 0);
+    let none = EndLine::none();
+    put_kits(
+        out,
+        own,
+        nodes,
+        c,
+        lines,
+        none.at,
+        none.place,
+        none.quantity,
+    )
 }
 
 // All kit records, with room for the lines of a row.

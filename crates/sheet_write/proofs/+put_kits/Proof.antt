@@ -3,7 +3,7 @@ use mathlib.Core.Path.{refl, _∙_}
 use native.Mathlib.Omega.{arith}
 use Rattle.ground.proofs.Put.{put-none, put-length}
 use Rattle.nodes.specs.Inner.{rank}
-use Rattle.sheet_write.specs.Inner.{EndsIn}
+use Rattle.sheet_write.specs.Inner.{EndsIn, endLine}
 use Rattle.sheet_write.proofs.Carried.{kept-on}
 use Rattle.sheet_write.proofs.Walked.{none-from, in-table, may-add, ends, further, to-child, to-next, child-falls, next-falls, parts-long, set-down}
 use Rattle.sheet_write.proofs.Walked.{above-stands, child-stands, next-stands, still-stands}
@@ -50,7 +50,8 @@ module _ (t : ℕ) where
   -- what the rows end in once the label is read
   known : (c : lts.After-with-unit (R t) (At t) own.Post) →
       let start : lts.Start (R t) (At t) own.Post = search in
-      EndsIn (start .args .nodes .now) (start .args .link) (start .args .above) (c .with-unit .result)
+      EndsIn (start .args .nodes .now) (start .args .link) (endLine (start .args .line) (start .args .place) (start .args .quantity))
+      (c .with-unit .result)
   known c =
       let at-label-at : lts.After-label-at (R t) (At t) own.Post = search in
       let else1 : lts.Else1 (R t) (At t) own.Post = search in
