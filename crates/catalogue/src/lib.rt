@@ -1,5 +1,5 @@
 // Document 01, "Calls and what they answer": the calls that are lent both tables. None has a `requires`: each checks all that it is lent, in the
-// paper's order, and refuses. The work behind them is done by the crates below, on tables known to be sound.
+// paper's order, and refuses. The work behind the checks is done by `sound`, on tables known to be so.
 ghost use mathlib.Core.Path.{_≡_};
 ghost use Rattle.ground.specs.Calls.{answer, SetsBoth};
 ghost use Rattle.questions.specs.Questions.{isWithin, isContaining};
@@ -8,12 +8,10 @@ ghost use Rattle.answers.specs.Answers.{reply};
 ghost use Rattle.catalogue.specs.Calls.{emptying, inserting, finding, deleting, anyKit, allKits, almostKits, writing, reading, Leaves, Sets};
 use answers::Answer;
 use answers::refused;
-use ground::wide16;
-use shortfalls::MOST_SHORT;
 use tables::check_lengths;
-use tables::check_lent;
-use tables::check_lines;
 use tables::check_tables;
+
+pub mod sound;
 
 // Empties both tables.
 pub fn empty(reg: &mut [u8], nodes: &mut [u16]) -> Answer
@@ -36,89 +34,73 @@ pub fn insert(reg: &[u8], nodes: &mut [u16], list: &[u16], tag: u16) -> Answer
     if refused(lent) {
         return lent;
     }
-    if tag == 0 {
-        return Answer::NoTag;
-    }
-    let typed = check_lines(reg, list);
-    if refused(typed) {
-        return typed;
-    }
-    if !kits::has_room(list) {
-        return Answer::TooMany;
-    }
-    index::insert(nodes, kits::row_of(list), tag)
+    sound::insert(reg, nodes, list, tag)
 }
 
 // Finds a list: its tag. A list of more than 64 units is not held.
 pub fn find(reg: &[u8], nodes: &[u16], list: &[u16]) -> Answer
     ensures { λ r. ⌜ reply r ≡ answer (finding (now (list .entry)) (tables (now (reg .entry)) (now (nodes .entry)))) ⌝ }
 {
-    let lent = check_lent(reg, nodes, list);
+    let lent = check_tables(reg, nodes);
     if refused(lent) {
         return lent;
     }
-    if !kits::has_room(list) {
-        return Answer::NotHeld;
-    }
-    index::find(nodes, kits::row_of(list))
+    sound::find(reg, nodes, list)
 }
 
 // Deletes a list: its tag.
 pub fn delete(reg: &[u8], nodes: &mut [u16], list: &[u16]) -> Answer
     ensures { λ r. ⌜ Leaves (deleting (now (list .entry))) (now (reg .entry)) (now (nodes .entry)) r (now (reg .entry)) (now (nodes .exit)) ⌝ }
 {
-    let lent = check_lent(reg, nodes, list);
+    let lent = check_tables(reg, nodes);
     if refused(lent) {
         return lent;
     }
-    if !kits::has_room(list) {
-        return Answer::NotHeld;
-    }
-    index::delete(nodes, kits::row_of(list))
+    sound::delete(reg, nodes, list)
 }
 
 // Any kit within the bin: the tag of the first in listing order, or 0.
 pub fn any_within(reg: &[u8], nodes: &[u16], bin: &[u16]) -> Answer
     ensures { λ r. ⌜ reply r ≡ answer (anyKit isWithin (now (bin .entry)) (tables (now (reg .entry)) (now (nodes .entry)))) ⌝ }
 {
-    let lent = check_lent(reg, nodes, bin);
+    let lent = check_tables(reg, nodes);
     if refused(lent) {
         return lent;
     }
-    Answer::Done(wide16(questions::any_within(nodes, bin)))
+    sound::any_within(reg, nodes, bin)
 }
 
 // Any kit containing the list: the tag of the first in listing order, or 0.
 pub fn any_containing(reg: &[u8], nodes: &[u16], list: &[u16]) -> Answer
     ensures { λ r. ⌜ reply r ≡ answer (anyKit isContaining (now (list .entry)) (tables (now (reg .entry)) (now (nodes .entry)))) ⌝ }
 {
-    let lent = check_lent(reg, nodes, list);
+    let lent = check_tables(reg, nodes);
     if refused(lent) {
         return lent;
     }
-    Answer::Done(wide16(questions::any_containing(nodes, list)))
+    sound::any_containing(reg, nodes, list)
 }
 
 // All kits within the bin: their tags in listing order at the start of the output.
 pub fn all_within(reg: &[u8], nodes: &[u16], bin: &[u16], out: &mut [u16]) -> Answer
     ensures { λ r. ⌜ Sets (allKits isWithin (now (bin .entry)) (tables (now (reg .entry)) (now (nodes .entry)))) (now (out .entry)) r (now (out .exit)) ⌝ }
 {
-    let lent = check_lent(reg, nodes, bin);
+    let lent = check_tables(reg, nodes);
     if refused(lent) {
         return lent;
     }
-    questions::all_within(nodes, bin, out)
+    sound::all_within(reg, nodes, bin, out)
 }
 
 // All kits containing the list: their tags in listing order at the start of the output.
 pub fn all_containing(reg: &[u8], nodes: &[u16], list: &[u16], out: &mut [u16]) -> Answer
     ensures { λ r. ⌜ Sets (allKits isContaining (now (list .entry)) (tables (now (reg .entry)) (now (nodes .entry)))) (now (out .entry)) r (now (out .exit)) ⌝ }
 {
-    let lent = check_lent(reg, nodes, list);
+    let lent = check_tables(reg, nodes);
     if refused(lent) {
         return lent;
     }
-    questions::all_containing(nodes, list, out)
+    sound::all_containing(reg, nodes, list, out)
 }
 
 // All kits that the bin fills but for at most d units: their tags in listing order at the start of the one output, and the shortfall of each at the
@@ -134,14 +116,11 @@ pub fn all_almost(
     ensures { λ r. ⌜ SetsBoth (almostKits d (now (bin .entry)) (tables (now (reg .entry)) (now (nodes .entry)))) (now (tags .entry)) (now (shorts .entry))
         (reply r) (now (tags .exit)) (now (shorts .exit)) ⌝ }
 {
-    let lent = check_lent(reg, nodes, bin);
+    let lent = check_tables(reg, nodes);
     if refused(lent) {
         return lent;
     }
-    if MOST_SHORT < d {
-        return Answer::TooFar;
-    }
-    shortfalls::all_almost(nodes, bin, d, tags, shorts)
+    sound::all_almost(reg, nodes, bin, d, tags, shorts)
 }
 
 // Writes the sheet at the start of the output: the bytes written.
@@ -152,7 +131,7 @@ pub fn write_sheet(reg: &[u8], nodes: &[u16], out: &mut [u8]) -> Answer
     if refused(lent) {
         return lent;
     }
-    sheet_write::write_sheet(reg, nodes, out)
+    sound::write_sheet(reg, nodes, out)
 }
 
 // Reads a sheet into both tables: the kits read.

@@ -44,7 +44,7 @@ nothing-leaves d e bin m h = almost.almost-grows (units bin) (inOrder (m .kits))
 
 -- what a catalogue has are good rows
 good-rows : {T : Tables} {m : Contents} → Brought T m → (k : Kit) → List·Memᴰ k (inOrder (m .kits)) → GoodRow mostPlace (k .row)
-good-rows {T} b k i = held-good (widen (few-parts (T .register) (b .ready)) (b .sound) .shape) k (subst (List·Memᴰ k) (sym (b .kits)) i)
+good-rows {T} b k i = held-good (widen (few-parts (T .register) (b .both .ready)) (b .both .sound) .shape) k (subst (List·Memᴰ k) (sym (b .kits)) i)
 
 pub zero-is-within : ZeroIsWithin
 unfolding answering

@@ -9,19 +9,18 @@ use lib.ListN.{length}
 use lib.Dec.{ltb}
 use Rattle.ground.specs.Lists.{keep}
 use Rattle.ground.specs.Laid.{laid}
-use Rattle.ground.specs.Calls.{Case, given, done, decide, answer, leaves, memory, withRoom, setDown}
+use Rattle.ground.specs.Calls.{Case, given, decide, answer, leaves, memory, withRoom, setDown}
 use Rattle.ground.proofs.Calls.{decide-behind}
 use Rattle.kits.specs.Kits.{Within, units, listFaults}
 use Rattle.nodes.specs.Held.{Kit, inOrder, tagsOf, firstTag}
 use Rattle.nodes.proofs.Sorted.{keep-mem, mem-keep, rising-keep}
 use Rattle.nodes.proofs.Listing.{order-mem, mem-order, order-rises}
-use Rattle.nodes.proofs.Decided.{sound-test}
 use Rattle.nodes.proofs.Held.{held-tagged}
 use Rattle.questions.specs.Questions.{isWithin, isContaining, fitting, anyOf, allOf}
 use Rattle.sheet.specs.Sheet.{Contents}
 use Rattle.ground.specs.Tables.{Tables}
 use Rattle.tables.specs.Lent.{partCount, lentBoth, lentList}
-use Rattle.tables.proofs.Lent.{both-good}
+use Rattle.tables.proofs.Lent.{sound-passes}
 use Rattle.catalogue.specs.Calls.{contents, anyKit, allKits}
 use Rattle.catalogue.specs.Calls.{Question}
 use Rattle.demands.specs.Model.{entered, HasWhatWasEntered, listedIn, answering, listingOf}
@@ -55,11 +54,8 @@ module _ {T : Tables} {m : Contents} (b : Brought T m) where
   has-contents = let p = b .parts in let k = b .kits in rw (p, k)
 
   -- no refusal of the tables is given
-  lent-good : decide (lentBoth T) 0 ≡ done 0
-  lent-good = both-good (T .register) (T .nodes) (b .ready .fits) (b .sized) (b .ready .sound) (sound-test (b .sound))
-
   pub behind-tables : (cs : List Case) (v : ℕ) → decide (lentBoth T ++ cs) v ≡ decide cs v
-  behind-tables cs v = decide-behind (lentBoth T) cs 0 v lent-good
+  behind-tables cs v = decide-behind (lentBoth T) cs 0 v (sound-passes (T .register) (T .nodes) (b .both))
 
   -- a call whose answer needs room, behind what is refused of the tables
   module _ {A : Type 0} (cs : List Case) (short : Bool) (n : ℕ) (after old : A) where
@@ -128,4 +124,4 @@ none-answers a question l h =
     let b = brought a h in
     no-first (answering question l (entered a)) (λ k i.
     let j = keep-mem (question (units l)) k (inOrder (entered a .kits)) i in
-    held-tagged (b .sound .shape) k (subst (List·Memᴰ k) (sym (b .kits)) (j .0)))
+    held-tagged (b .both .sound .shape) k (subst (List·Memᴰ k) (sym (b .kits)) (j .0)))

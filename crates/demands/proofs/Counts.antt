@@ -12,7 +12,8 @@ use Rattle.index_counts.proofs.Filled.{more-beginnings}
 use Rattle.kits.specs.Kits.{units}
 use Rattle.demands.specs.Model.{tablesOf, entered}
 use Rattle.demands.specs.Pins.{NodesCounted, NodesTaken}
-use Rattle.demands.proofs.Brought.{brought, insertion, now-held, now-begun}
+use Rattle.catalogue.proofs.Kept.{insertion}
+use Rattle.demands.proofs.Brought.{brought, now-held, now-begun}
 
 -- the order of the kits does not matter
 pub as-many : (ks : List Kit) → length (allBeginnings (inOrder ks)) ≡ length (allBeginnings ks)
@@ -22,7 +23,7 @@ as-many ks =
 pub nodes-counted : NodesCounted
 nodes-counted a h =
     let b = brought a h in
-    nodes-used (b .sound) ∙ ap (λ (ks : List Kit). 1 + length (allBeginnings ks)) (b .kits) ∙ ap (λ (n : ℕ). 1 + n)
+    nodes-used (b .both .sound) ∙ ap (λ (ks : List Kit). 1 + length (allBeginnings ks)) (b .kits) ∙ ap (λ (n : ℕ). 1 + n)
     (as-many (entered a .kits))
 
 pub nodes-taken : NodesTaken
@@ -30,8 +31,8 @@ nodes-taken a l t v h e =
     let b = brought a h in
     let T = tablesOf a in
     let i = insertion l t T v e in
-    let now = now-held l t (T .register) (T .nodes) (entered a) b (i .good) (i .short) (i .some-tag) (i .accepted) in
-    let more = now-begun l t (T .register) (T .nodes) (entered a) b (i .good) (i .short) (i .some-tag) (i .accepted) in
+    let now = now-held l t (T .register) (T .nodes) (entered a) b v i in
+    let more = now-begun l t (T .register) (T .nodes) (entered a) b v i in
     omega (
       arith,
       more,

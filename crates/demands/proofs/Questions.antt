@@ -21,7 +21,6 @@ use Rattle.nodes.specs.Held.{Kit, tagsOf, firstTag, listed}
 use Rattle.nodes.proofs.Lists.{never}
 use Rattle.nodes.proofs.Sorted.{Rising, none, ahead, every-mem}
 use Rattle.nodes.proofs.Listing.{Earlier}
-use Rattle.nodes.proofs.Decided.{sound-exactly}
 use Rattle.questions.specs.Questions.{isWithin, isContaining, fitting, anyOf, allOf}
 use Rattle.questions.proofs.Meaning.{fitting-exactly, fitting-sorted, none-exactly}
 use Rattle.ground.specs.Tables.{Tables}
@@ -53,8 +52,7 @@ no-unless true f = absurd (f refl)
 -- tables that are asked a question are sound
 asked-sound : (T : Tables) (l : List ℕ) → Asked T l → Sound (partCount T) (T .nodes)
 asked-sound T l e =
-    let L = lent-passed (T .register) (T .nodes) l (ap isRefused e) .both in
-    sound-exactly (partCount T) (T .nodes) (L .sized) .0 (L .decided)
+    lent-passed (T .register) (T .nodes) l (ap isRefused e) .sound
 
 pub any-says : AnySays
 unfolding answer anyKit anyOf decide

@@ -81,10 +81,10 @@ module _ {T : Tables} {m : Contents} (b : Brought T m) where
   small k i = every-mem (b .small) (order-mem k (m .kits) (subst (List·Memᴰ k) (b .kits) i))
 
   fits : fitsSheet (listedIn m) ≡ true
-  fits = subst (λ (c : Contents). fitsSheet c ≡ true) (has-contents b) (catalogue-fits (b .ready) (b .sound) small)
+  fits = subst (λ (c : Contents). fitsSheet c ≡ true) (has-contents b) (catalogue-fits (b .both .ready) (b .both .sound) small)
 
   have-tags : Every HasTag (inOrder (m .kits))
-  have-tags = mem-every (inOrder (m .kits)) (λ k i. held-tagged (b .sound .shape) k (subst (List·Memᴰ k) (sym (b .kits)) i))
+  have-tags = mem-every (inOrder (m .kits)) (λ k i. held-tagged (b .both .sound .shape) k (subst (List·Memᴰ k) (sym (b .kits)) i))
 
 -- Catalogues agree exactly when they have the same in listing order
 module _ {T U : Tables} {m n : Contents} (b : Brought T m) (d : Brought U n) where
@@ -143,11 +143,11 @@ module _ {T U : Tables} {m : Contents} (b : Brought T m) (r : Roomy m U) where
   same-memory s = ap (λ a. leaves a U (filling (said (decode s)) U)) (same-answer s)
 
   back-accepted : answer (reading (encode (contents T)) U) ≡ done (length (m .kits))
-  back-accepted = same-answer (encode (contents T)) ∙ write-then-read (b .ready) (b .sound) (small b) U roomy ∙ ap done as-many-kits
+  back-accepted = same-answer (encode (contents T)) ∙ write-then-read (b .both .ready) (b .both .sound) (small b) U roomy ∙ ap done as-many-kits
 
   back-contents : contents (memory (reading (encode (contents T)) U) U) ≡ contents T
   back-contents =
-      let h = same-catalogue (b .ready) (b .sound) (small b) U roomy in
+      let h = same-catalogue (b .both .ready) (b .both .sound) (small b) U roomy in
       let e = same-memory (encode (contents T)) in
       let p = h .parts in
       let k = h .kits in

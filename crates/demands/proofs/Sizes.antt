@@ -21,7 +21,8 @@ use Rattle.catalogue.specs.Calls.{Call, emptyBoth, registerPart, lookUp, showAt
 use Rattle.catalogue.specs.Calls.{allWithin, allContaining, allAlmost, writeSheet, readSheet, planOf, emptying, inserting, finding}
 use Rattle.catalogue.specs.Calls.{deleting, anyKit}
 use Rattle.demands.specs.Model.{has, step, run, Catalogue, Allowed, begun, tablesOf}
-use Rattle.demands.proofs.Brought.{Brought, Typed, insertion, delete-held, what-was-read, call-keeps, begun-empty, all-typed}
+use Rattle.catalogue.proofs.Kept.{insertion, delete-held}
+use Rattle.demands.proofs.Brought.{Brought, Typed, what-was-read, call-keeps, begun-empty, all-typed}
 
 -- tables of the same lengths
 pub record Alike (T U : Tables) : Type 0 where
@@ -49,9 +50,9 @@ done-alike (lookUp n) T m v y e b = record { register = refl; nodes = refl }
 done-alike (showAt p) T m v y e b = record { register = refl; nodes = refl }
 done-alike (insertKit l t) T m v y e b =
     let i = insertion l t T v e in
-    record { register = refl; nodes = insert-length (b .sound) (good-row (partCount T) l (i .good) (i .short)) (i .some-tag) (i .accepted) }
+    record { register = refl; nodes = insert-length (b .both .sound) (good-row (partCount T) l (i .good) (i .short)) (i .some-tag) (i .accepted) }
 done-alike (findKit l) T m v y e b = record { register = refl; nodes = refl }
-done-alike (deleteKit l) T m v y e b = record { register = refl; nodes = delete-length (b .sound) (units l) (delete-held l T v e) }
+done-alike (deleteKit l) T m v y e b = record { register = refl; nodes = delete-length (b .both .sound) (units l) (delete-held l T v e) }
 done-alike (anyWithin l) T m v y e b = record { register = refl; nodes = refl }
 done-alike (anyContaining l) T m v y e b = record { register = refl; nodes = refl }
 done-alike (allWithin l o) T m v y e b = record { register = refl; nodes = refl }

@@ -51,7 +51,7 @@ module _ {T : Tables} {m : Contents} (b : Brought T m) (slots room : ℕ) (hs : 
   -- the register's calls
   ready-lent : decide (lentRegister (T .register)) 0 ≡ done 0
   unfolding lentRegister decide
-  ready-lent = let f = b .ready .fits in let s = b .ready .sound in rw (f, s)
+  ready-lent = let f = b .both .ready .fits in let s = b .both .ready .sound in rw (f, s)
 
   register-told : (n : List ℕ) → answer (planOf (registerPart n) T) ≡ told slots room m (registerPart n)
   unfolding answer planOf registering numberRefusals told
@@ -90,7 +90,7 @@ module _ {T : Tables} {m : Contents} (b : Brought T m) (slots room : ℕ) (hs : 
         let e : putKit (kit (units l) t) (held N) ≡ inOrder (kit (units l) t ∷ m .kits) = ap (putKit (kit (units l) t)) (b .kits) in
         omega (
           arith,
-          nodes-needed (b .sound) (units l) t,
+          nodes-needed (b .both .sound) (units l) t,
           ap (λ (ks : List Kit). length (allBeginnings ks)) e,
           as-many
               (kit (units l) t ∷ m .kits),
@@ -99,7 +99,7 @@ module _ {T : Tables} {m : Contents} (b : Brought T m) (slots room : ℕ) (hs : 
         )
 
     free-told : nodesNeeded m + length (freeNodes (T .nodes)) ≡ room
-    free-told = omega (arith, nodes-free (b .sound), ap (λ (ks : List Kit). length (allBeginnings ks)) (b .kits), as-many (m .kits), hr)
+    free-told = omega (arith, nodes-free (b .both .sound), ap (λ (ks : List Kit). length (allBeginnings ks)) (b .kits), as-many (m .kits), hr)
 
     full-told : ltb (length (freeNodes (T .nodes))) (lacks (T .nodes) 0 (units l)) ≡ ltb room (nodesNeeded (more m l t))
     full-told = same-cases (ltb (length (freeNodes N)) (lacks N 0 (units l))) (ltb room (nodesNeeded (more m l t)))
@@ -136,7 +136,7 @@ module _ {T : Tables} {m : Contents} (b : Brought T m) (slots room : ℕ) (hs : 
 
   -- both tables emptied or filled
   sized-lent : decide (lengths T) 0 ≡ done 0
-  sized-lent = lengths-good R N (b .ready .fits) (b .sized)
+  sized-lent = lengths-good R N (b .both .ready .fits) (b .both .sized)
 
   empty-told : answer (planOf emptyBoth T) ≡ told slots room m emptyBoth
   unfolding answer planOf emptying told

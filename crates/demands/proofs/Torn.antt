@@ -33,8 +33,8 @@ held-found a p h some held =
     let placed : p - 1 < length (partsOf R) = omega arith in
     let n = getD (entered a .parts) (p - 1) [] in
     let here : getD (partsOf R) (p - 1) [] ≡ n = ap (λ (ps : List (List ℕ)). getD ps (p - 1) []) e in
-    let good : goodNumber n ≡ true = ap goodNumber (sym here) ∙ number-good R (b .ready) (p - 1) placed in
-    (look-up-exactly n R p (b .ready) good some .1 (inside, here), showing-done R (b .ready) p some inside)
+    let good : goodNumber n ≡ true = ap goodNumber (sym here) ∙ number-good R (b .both .ready) (p - 1) placed in
+    (look-up-exactly n R p (b .both .ready) good some .1 (inside, here), showing-done R (b .both .ready) p some inside)
 
 pub torn-cases : TornCases
 unfolding opened tornTables

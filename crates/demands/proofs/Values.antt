@@ -20,11 +20,9 @@ use Rattle.register.specs.Inner.{Ready}
 use Rattle.register.proofs.Slots.{number-short}
 use Rattle.kits.specs.Kits.{mostUnits, mostPlace, units, lineValue, lineFaults, linesFaults, listFaults}
 use Rattle.kits.specs.Inner.{GoodRow}
-use Rattle.nodes.specs.Inner.{Sound}
 use Rattle.nodes.specs.Held.{Kit, held, tagIn, tagsOf, firstTag, beginnings, addNew, allBeginnings}
 use Rattle.nodes.proofs.Lists.{zero-or}
 use Rattle.nodes.proofs.Sorted.{Every, none, also, every-append, keep-short, allb-mem}
-use Rattle.nodes.proofs.Decided.{sound-exactly}
 use Rattle.nodes.proofs.Listing.{tags-long, tag-from}
 use Rattle.index_insert.specs.Enter.{lacks}
 use Rattle.index_insert.proofs.Entered.{lacks-most}
@@ -42,7 +40,8 @@ use Rattle.sheet_write.proofs.Records.{number-size}
 use Rattle.sheet_read.proofs.Listed.{Fits, fitting-fits, kit-fits}
 use Rattle.sheet_read.proofs.Reading.{said-again}
 use Rattle.sheet_read.proofs.RoundTrip.{SmallTags, words-small, catalogue-fits}
-use Rattle.tables.proofs.Lent.{Lent, both-passed, lent-passed, few-parts}
+use Rattle.tables.specs.Inner.{SoundTables}
+use Rattle.tables.proofs.Lent.{both-passed, lent-passed, few-parts}
 use Rattle.ground.specs.Tables.{Tables, tables}
 use Rattle.tables.specs.Lent.{partCount, lengths, lentBoth, lentList}
 use Rattle.catalogue.specs.Calls.{emptyBoth, registerPart, lookUp, showAt, insertKit, findKit, deleteKit, anyWithin, anyContaining}
@@ -224,15 +223,12 @@ showing-small p R =
 
 -- Tables that are lent, of 16-bit words
 module _ (R N : List ℕ) (words : (i : ℕ) → getD N i 0 < twoLimit) where
-  module _ (L : Lent R N) where
-    sound-here : Sound (length (partsOf R)) N
-    sound-here = sound-exactly (length (partsOf R)) N (L .sized) .0 (L .decided)
-
+  module _ (L : SoundTables (tables R N)) where
     tags-here : SmallTags N
-    tags-here = words-small (sound-here .shape) words
+    tags-here = words-small (L .sound .shape) words
 
     fits-here : Fits (contentsOf R N)
-    fits-here = fitting-fits (contentsOf R N) (catalogue-fits (L .ready) sound-here tags-here)
+    fits-here = fitting-fits (contentsOf R N) (catalogue-fits (L .ready) (L .sound) tags-here)
 
     tag-here : (r : List ℕ) → tagIn r (held N) < limit
     tag-here r = omega (arith, tag-small twoLimit r (held N) (omega arith) tags-here)
@@ -246,8 +242,8 @@ module _ (R N : List ℕ) (words : (i : ℕ) → getD N i 0 < twoLimit) where
   abbrev T : Tables
   T = tables R N
 
-  list-lent : (l : List ℕ) → isRefused (decide (lentList T l) 0) ≡ false → Lent R N
-  list-lent l e = lent-passed R N l e .both
+  list-lent : (l : List ℕ) → isRefused (decide (lentList T l) 0) ≡ false → SoundTables (tables R N)
+  list-lent l e = lent-passed R N l e
 
   pub inserting-small : (l : List ℕ) (t : ℕ) → valueOf (answer (inserting l t (tables R N))) < limit
   unfolding answer inserting entryRefusals

@@ -1,22 +1,19 @@
--- The tables that the desk starts with: all zeros, and the register is sound.
+-- The tables that the desk starts with: all zeros, and sound.
 use mathlib.Core.Path.{_≡_, sym, ap, subst, _∙_}
 use mathlib.Core.List.{List}
 use Prim.Native.Nat.{ℕ, _*_}
 use native.Mathlib.Omega.{arith}
-use lib.ListN.{replicate, length-replicate}
+use lib.ListN.{replicate}
 use Rattle.ground.specs.Tables.{Tables, tables}
 use Rattle.register.specs.Register.{slotBytes}
-use Rattle.register.specs.Inner.{Ready}
-use Rattle.register.proofs.Empty.{slots-fit, zeros-ready}
 use Rattle.nodes.specs.Nodes.{wordsPerNode}
+use Rattle.tables.specs.Inner.{SoundTables}
+use Rattle.catalogue.proofs.Kept.{begun-sound}
 use Rattle.desk_lines.specs.Sizes.{deskSlots, deskNodes, emptyDesk, begunDesk}
 
-pub begun-ready : (T : Tables) → T ≡ begunDesk → Ready (T .register)
+pub desk-sound : (T : Tables) → T ≡ begunDesk → SoundTables T
 unfolding begunDesk emptyDesk
-begun-ready T e =
-    let n : ℕ = deskSlots * slotBytes in
-    let fits = slots-fit deskSlots (replicate n 0) (omega arith) (omega arith) (length-replicate {A = ℕ} n 0) in
-    subst (λ (U : Tables). Ready (U .register)) (sym e) (zeros-ready n fits)
+desk-sound T e = subst SoundTables (sym e) (begun-sound deskSlots deskNodes (omega arith) (omega arith) (omega arith) (omega arith))
 
 pub begun-tables : (R N : List ℕ) → R ≡ replicate (deskSlots * slotBytes) 0 → N ≡ replicate (deskNodes * wordsPerNode) 0 →
     tables R N ≡ begunDesk

@@ -4,8 +4,8 @@ use mathlib.Core.Path.{_≡_}
 use mathlib.Core.List.{List, _++_}
 use Prim.Native.Nat.{ℕ, _≤_}
 use lib.ListN.{length, take}
-use Rattle.register.specs.Inner.{Ready}
 use Rattle.ground.specs.Tables.{Tables}
+use Rattle.tables.specs.Inner.{SoundTables}
 use Rattle.desk_text.specs.Inner.{upTo}
 use Rattle.desk_text.specs.Lines.{lineFeed}
 use Rattle.desk_input.specs.Inner.{mostKept, keptOf}
@@ -21,9 +21,9 @@ replyBytes = 16640
 ------------------------------------------------------------------------
 -- What answering a line, and taking a piece of the input, leaves
 
--- what the desk has at hand, and keeps: a sound register, room for every reply
+-- what the desk has at hand, and keeps between lines: sound tables, so that it pays for no check, and room for every reply
 pub record AtHand (T : Tables) (places sheet out : List ℕ) : Type 0 where
-  pub ready : Ready (T .register)
+  pub both : SoundTables T
   pub room : Room places sheet out
 
 -- of a line that has not ended, n bytes are kept, with room for enough to tell an overlong one

@@ -11,12 +11,9 @@ use borrow.Author.Tests.{eq-eqb, ne-eqb, ltb-false}
 use lib.Dec.{ltb}
 use Rattle.ground.specs.Laid.{laid}
 use Rattle.ground.specs.Calls.{Case, given, Plan, Reply, done, refused, numberOf, valueOf, isRefused, decide, answer, leaves, memory, Promise, setDown}
-use Rattle.ground.proofs.Calls.{passed-done, refused-says, leaves-done, leaves-refused, refusal-keeps, done-passes}
+use Rattle.ground.proofs.Calls.{passed-done, refused-says, leaves-done, leaves-refused, done-passes}
 use Rattle.ground.proofs.Laid.{length-laid}
-use Rattle.register.specs.Register.{registerLength}
-use Rattle.register.specs.Inner.{Ready}
 use Rattle.register.specs.Calls.{registering}
-use Rattle.register.proofs.Laws.{sound-after-registering, length-after-registering}
 use Rattle.questions.specs.Questions.{isWithin, isContaining}
 use Rattle.ground.specs.Tables.{Tables, tables}
 use Rattle.catalogue.specs.Calls.{Question, onRegister, inserting, finding, deleting, anyKit, allKits, writing}
@@ -31,22 +28,6 @@ use Rattle.desk_lists.specs.Typed.{typed, stopped, lookedUp}
 use Rattle.desk_lists.specs.Inner.{typedAs, ReadAs}
 use Rattle.desk_lines.specs.Desk.{called, shown, registerLine, callOf, Answers}
 use Rattle.desk_lines.specs.Inner.{setDownBy, printed}
-
--- a register that is ready stays so, whatever is registered
-same-length-allowed : (M R : List ℕ) → length M ≡ length R → registerLength M ≡ registerLength R
-unfolding registerLength
-same-length-allowed M R e = rw e
-
-pub ready-kept : (n R : List ℕ) → Ready R → Ready (memory (registering n R) R)
-ready-kept n R r = go (answer (registering n R)) refl
-  where
-    go : (a : Reply) → answer (registering n R) ≡ a → Ready (memory (registering n R) R)
-    go (refused k v) e = rw (refusal-keeps (registering n R) R k v e) r
-    go (done v) e =
-        record {
-          fits = same-length-allowed (memory (registering n R) R) R (length-after-registering n R v e) ∙ r .fits;
-          sound = sound-after-registering n R v e;
-        }
 
 -- what is set down lies inside the output
 decide-last : (cs : List Case) (c : Case) (v w : ℕ) → decide (cs ++ (c ∷ [])) v ≡ done w → (c .test ≡ false) × (w ≡ v)

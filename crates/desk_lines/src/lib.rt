@@ -6,6 +6,7 @@ ghost use lib.ListN.{length};
 ghost use Rattle.ground.specs.Calls.{numberOf, valueOf, memory, Promise};
 ghost use Rattle.register.specs.Inner.{Ready};
 ghost use Rattle.ground.specs.Tables.{tables};
+ghost use Rattle.tables.specs.Inner.{SoundTables};
 ghost use Rattle.answers.specs.Answers.{reply};
 ghost use Rattle.catalogue.specs.Calls.{writing};
 ghost use Rattle.desk_text.specs.Lines.{fieldsFrom, parsed};
@@ -18,6 +19,7 @@ ghost use Rattle.desk_lines.specs.Inner.{Room, setDownBy, printed, asked
 use answers::Answer;
 use answers::refused;
 use answers::reply_of;
+use catalogue::sound;
 use desk_lists::read_list;
 use desk_replies::put_listing;
 use desk_replies::put_other;
@@ -71,40 +73,40 @@ fn put_written(out: &mut [u8], a: Answer, sheet: &[u8]) -> usize
 fn register_line(line: &[u8], from: usize, reg: &mut [u8], nodes: &[u16], out: &mut [u8]) -> usize
     requires { ⌜ length (fieldsFrom (now line) from) ≡ 1 ⌝ ∗ ⌜ Ready (now reg) ⌝ ∗ ⌜ headRoom + 1 ≤ length (now out) ⌝ }
     ensures { λ r. ⌜ Answers (registerLine (fieldsFrom (now (line .entry)) from) (tables (now (reg .entry)) (now (nodes .entry)))) (now (out .entry)) r
-        (now (out .exit)) (tables (now (reg .exit)) (now (nodes .entry))) ⌝
-        ∗ ⌜ Ready (now (reg .exit)) ⌝ }
+        (now (out .exit)) (tables (now (reg .exit)) (now (nodes .entry))) ⌝ }
 {
     put_answer(out, desk_text::REGISTERS, register_in(reg, &line[from..]))
 }
 
 // "W writes".
 fn write_line(reg: &[u8], nodes: &[u16], sheet: &mut [u8], out: &mut [u8]) -> usize
-    requires { ⌜ headRoom + 1 + 2 * length (now sheet) + 1 ≤ length (now out) ⌝ }
+    requires { ⌜ SoundTables (tables (now reg) (now nodes)) ⌝ ∗ ⌜ headRoom + 1 + 2 * length (now sheet) + 1 ≤ length (now out) ⌝ }
     ensures { λ r. ⌜ ReplyStands (now (out .entry)) (writeLine (tables (now (reg .entry)) (now (nodes .entry))) (now (sheet .entry)) .says) r (now (out .exit)) ⌝
         ∗ ⌜ now (sheet .exit) ≡ memory (writing (tables (now (reg .entry)) (now (nodes .entry))) (now (sheet .entry))) (now (sheet .entry)) ⌝ }
 {
-    let a = catalogue::write_sheet(reg, nodes, sheet);
+    let a = sound::write_sheet(reg, nodes, sheet);
     put_written(out, a, sheet)
 }
 
 // "K tag, then number and quantity pairs, inserts; F finds; D deletes; B any within; S any containing".
 fn call(letter: u8, tag: u16, list: &[u16], reg: &[u8], nodes: &mut [u16]) -> Answer
+    requires { ⌜ SoundTables (tables (now reg) (now nodes)) ⌝ }
     ensures { λ r. ⌜ Promise (callOf letter tag (now (list .entry)) (tables (now (reg .entry)) (now (nodes .entry))))
         (tables (now (reg .entry)) (now (nodes .entry))) (reply r) (tables (now (reg .entry)) (now (nodes .exit))) ⌝ }
 {
     if letter == desk_text::INSERTS {
-        return catalogue::insert(reg, nodes, list, tag);
+        return sound::insert(reg, nodes, list, tag);
     }
     if letter == desk_text::FINDS {
-        return catalogue::find(reg, nodes, list);
+        return sound::find(reg, nodes, list);
     }
     if letter == desk_text::DELETES {
-        return catalogue::delete(reg, nodes, list);
+        return sound::delete(reg, nodes, list);
     }
     if letter == desk_text::ANY_WITHIN {
-        return catalogue::any_within(reg, nodes, list);
+        return sound::any_within(reg, nodes, list);
     }
-    catalogue::any_containing(reg, nodes, list)
+    sound::any_containing(reg, nodes, list)
 }
 
 // Answers what a letter asks of a list: "b and s list all".
@@ -117,17 +119,17 @@ fn ask(
     places: &mut [u16],
     out: &mut [u8],
 ) -> usize
-    requires { ⌜ headRoom + tagRoom * length (now places) + 1 ≤ length (now out) ⌝ }
+    requires { ⌜ SoundTables (tables (now reg) (now nodes)) ⌝ ∗ ⌜ headRoom + tagRoom * length (now places) + 1 ≤ length (now out) ⌝ }
     ensures { λ r. ⌜ Answers (asked letter tag (now (places .entry)) (tables (now (reg .entry)) (now (nodes .entry))) (now (list .entry))) (now (out .entry)) r
         (now (out .exit)) (tables (now (reg .entry)) (now (nodes .exit))) ⌝
         ∗ ⌜ now (places .exit) ≡ askedPlaces letter (now (places .entry)) (tables (now (reg .entry)) (now (nodes .entry))) (now (list .entry)) ⌝ }
 {
     if letter == desk_text::ALL_WITHIN {
-        let within = catalogue::all_within(reg, nodes, list, places);
+        let within = sound::all_within(reg, nodes, list, places);
         return put_listed(out, letter, within, places);
     }
     if letter == desk_text::ALL_CONTAINING {
-        let containing = catalogue::all_containing(reg, nodes, list, places);
+        let containing = sound::all_containing(reg, nodes, list, places);
         return put_listed(out, letter, containing, places);
     }
     let a = call(letter, tag, list, reg, nodes);
@@ -145,7 +147,7 @@ fn ask_line(
     places: &mut [u16],
     out: &mut [u8],
 ) -> usize
-    requires { ⌜ Pairs (now line) from ⌝ ∗ ⌜ Ready (now reg) ⌝ ∗ ⌜ headRoom + tagRoom * length (now places) + 1 ≤ length (now out) ⌝ }
+    requires { ⌜ Pairs (now line) from ⌝ ∗ ⌜ SoundTables (tables (now reg) (now nodes)) ⌝ ∗ ⌜ headRoom + tagRoom * length (now places) + 1 ≤ length (now out) ⌝ }
     ensures { λ r. ⌜ Answers (askLine letter tag (fieldsFrom (now (line .entry)) from) (now (places .entry)) (tables (now (reg .entry)) (now (nodes .entry))))
         (now (out .entry)) r (now (out .exit)) (tables (now (reg .entry)) (now (nodes .exit))) ⌝
         ∗ ⌜ now (places .exit) ≡ askPlaces letter (fieldsFrom (now (line .entry)) from) (now (places .entry)) (tables (now (reg .entry)) (now (nodes .entry))) ⌝ }
@@ -159,7 +161,8 @@ fn ask_line(
     ask(letter, tag, &list[..n], reg, nodes, places, out)
 }
 
-// Answers a line: the reply stands at the start of the output, and its length is returned.
+// Answers a line: the reply stands at the start of the output, and its length is returned. The tables are sound and stay so (proofs/Left,
+// `left-sound`), so none of the calls checks them.
 pub fn answer_line(
     line: &[u8],
     reg: &mut [u8],
@@ -168,10 +171,9 @@ pub fn answer_line(
     sheet: &mut [u8],
     out: &mut [u8],
 ) -> usize
-    requires { ⌜ Ready (now reg) ⌝ ∗ ⌜ Room (now places) (now sheet) (now out) ⌝ }
+    requires { ⌜ SoundTables (tables (now reg) (now nodes)) ⌝ ∗ ⌜ Room (now places) (now sheet) (now out) ⌝ }
     ensures { λ r. ⌜ Answers (atDesk (parsed (now (line .entry))) (now (places .entry)) (now (sheet .entry)) (tables (now (reg .entry)) (now (nodes .entry))))
         (now (out .entry)) r (now (out .exit)) (tables (now (reg .exit)) (now (nodes .exit))) ⌝
-        ∗ ⌜ Ready (now (reg .exit)) ⌝
         ∗ ⌜ Outputs (parsed (now (line .entry))) (now (places .entry)) (now (sheet .entry)) (tables (now (reg .entry)) (now (nodes .entry)))
         (now (places .exit)) (now (sheet .exit)) ⌝ }
 {

@@ -9,6 +9,7 @@ use native.Mathlib.Omega.{arith}
 use lib.ListN.{length, getD, drop, set, drop-of-length-le}
 use lib.Seq.{drop-cons}
 use Rattle.ground.specs.Lists.{from, firstOr}
+use Rattle.ground.proofs.Laws.{firstFrom-is}
 use Rattle.kits.specs.Kits.{mostPlace}
 use Rattle.nodes.specs.Nodes.{at, tagWord, size, nodesOf, isFree}
 use Rattle.nodes.specs.Inner.{Shape}
@@ -29,8 +30,11 @@ pub record Growing (N₀ us : List ℕ) (p₀ d₀ t : ℕ) (N : List ℕ) (p a 
   pub start : a ≤ size N
   pub passed : (i : ℕ) → i < a → isFree N i ≡ false
 
-pub grow-start : {N us : List ℕ} {p d t : ℕ} → Grows N p (drop d us) → Growing N us p d t N p 0 d
-grow-start G = record { same-length = refl; grows = G; same = refl; start = omega arith; passed = λ i h. absurd (omega arith) }
+pub grow-start : {N us : List ℕ} {p d t f : ℕ} → Grows N p (drop d us) → f ≡ lowestFree N → Growing N us p d t N p f d
+unfolding lowestFree nodesOf
+grow-start {N = N} G e =
+    let F = firstFrom-is (isFree N) 0 (size N) (size N) (omega arith) in
+    rw e (record { same-length = refl; grows = G; same = refl; start = F .high; passed = λ i h. F .passed i (omega arith) h })
 
 module _ {N₀ us N : List ℕ} {p₀ d₀ t p a d f : ℕ} (G : Growing N₀ us p₀ d₀ t N p a d) (h : d < length us)
     (e : f ≡ firstOr (size N) (isFree N) (from a (size N - a))) where

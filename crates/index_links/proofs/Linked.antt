@@ -16,7 +16,7 @@ use Rattle.nodes.proofs.Chain.{siblings}
 use Rattle.index_links.specs.Links.{lastBelow, linkTo, link, unlink}
 use Rattle.index_links.proofs.Chains.{Stands, first, after, stands, stands-first, stands-after, Led, at-start, behind, led}
 use Rattle.index_links.proofs.Chains.{the-children, child-lives, child-used, child-mine, mine-child, with-missing}
-use Rattle.index_links.proofs.Seeking.{link-first, link-after}
+use Rattle.index_links.proofs.Seeking.{word-first, word-after, word-is-link}
 use Rattle.index_links.proofs.Words.{link-length, link-mine, link-other, link-here, unlink-length, unlink-mine, unlink-other, unlink-here}
 use Rattle.index_links.proofs.Splice.{Spliced, Room, Placed, Goes, chain-to}
 
@@ -236,7 +236,7 @@ module _ {parts : ℕ} {M : List ℕ} {f : ℕ} (S : Shape parts M) (u : Used M 
       by-led (at-start e) =
           let z : B ≡ 0 = is-first e in
           let qn : Q ≢ f = λ k. omega (arith, S .good f u .deeper, ap (depth M) k) in
-          is-unlinked Q 1 (sym (link-first M Q (label M f) B refl z)) (omega arith) (omega arith) qn qhome e
+          is-unlinked Q 1 (sym (word-first Q B z ∙ word-is-link M Q (label M f) B refl)) (omega arith) (omega arith) qn qhome e
           (λ i h k. ap (λ (j : ℕ). at j 1) (child-of i h k))
           (λ i h k. absurd (omega (arith, is-next i h k, used-pos (climb S) i (before-f i h k))))
       by-led (behind b m e) =
@@ -244,7 +244,8 @@ module _ {parts : ℕ} {M : List ℕ} {f : ℕ} (S : Shape parts M) (u : Used M 
           let z : B ≡ b = is-next b (v .inside) e in
           let gb : 0 < b = used-pos (climb S) b v in
           let bn : b ≢ f = λ k. omega (arith, S .good b v .greater (omega (arith, gf)), ap (label M) e, ap (label M) k) in
-          let w : linkTo M Q (label M f) ≡ at b 2 = sym (link-after M Q (label M f) B refl (λ k. omega arith)) ∙ ap (λ (j : ℕ). at j 2) z in
+          let w : linkTo M Q (label M f) ≡ at b 2 =
+          sym (word-after Q B (λ k. omega arith) ∙ word-is-link M Q (label M f) B refl) ∙ ap (λ (j : ℕ). at j 2) z in
           is-unlinked b 2 w (omega arith) (omega arith) bn (v .inside) e
           (λ i h k. absurd (omega (arith, is-first (ap (child M) (sym (child-of i h k)) ∙ k))))
           (λ i h k. ap (λ (j : ℕ). at j 2) (sym (is-next i h k) ∙ z))

@@ -20,13 +20,13 @@ module _ (N : List ℕ) (p t : ℕ) where
   retag-size : size M ≡ size N
   retag-size = omega (arith, retag-length)
 
-  retag-parent : (i : ℕ) → parent M i ≡ parent N i
+  pub retag-parent : (i : ℕ) → parent M i ≡ parent N i
   retag-parent i = getD-set-other N (at p tagWord) (at i 0) t 0 (omega arith)
 
-  retag-child : (i : ℕ) → child M i ≡ child N i
+  pub retag-child : (i : ℕ) → child M i ≡ child N i
   retag-child i = getD-set-other N (at p tagWord) (at i 1) t 0 (omega arith)
 
-  retag-next : (i : ℕ) → next M i ≡ next N i
+  pub retag-next : (i : ℕ) → next M i ≡ next N i
   retag-next i = getD-set-other N (at p tagWord) (at i 2) t 0 (omega arith)
 
   pub retag-label : (i : ℕ) → label M i ≡ label N i

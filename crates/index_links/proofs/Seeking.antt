@@ -1,17 +1,20 @@
 -- What a function keeps that follows a node's chain: the answer of the rest of the chain is the answer of the whole.
 use mathlib.Core.Path.{_≡_, refl, sym, ap, _∙_}
+use mathlib.Core.Logic.{⊎-elim}
 use mathlib.Core.List.{List, _∷_}
 use Prim.Native.Nat.{ℕ, suc, _≤_, _<_}
 use native.Mathlib.Omega.{arith}
+use lib.ListN.{length}
 use borrow.Author.Tests.{eq-eqb, ne-eqb}
 use Rattle.kits.specs.Kits.{mostPlace}
 use Rattle.ground.specs.Lists.{firstOr}
 use Rattle.nodes.specs.Nodes.{at, childWord, nextWord, parent, child, next, label, size, children}
 use Rattle.nodes.specs.Inner.{Live, Shape}
+use Rattle.nodes.proofs.Lists.{zero-or}
 use Rattle.nodes.proofs.Rows.{climb, live-inside}
 use Rattle.nodes.proofs.Chain.{siblings, left, left-less}
 use Rattle.index_links.specs.Links.{hasLabel, childWith, lastBelow, linkTo}
-use Rattle.index_links.specs.Inner.{Chained, Reads, Unlinks}
+use Rattle.index_links.specs.Inner.{Chained, Reads, LinksBehind, Unlinks, wordBehind}
 use Rattle.index_links.proofs.Chains.{Step, chained-step, chained-end, chained-above, the-children, child-lives, with-here, with-on, with-none, below-on, below-none}
 
 -- what is known of a link that is followed
@@ -110,13 +113,26 @@ unfolding lastBelow
 near-end K e = rw (chained-end (K .follows .chained) e) at (K .same)
 
 -- the word of the link
-pub link-first : (N : List ℕ) (p l b : ℕ) → b ≡ lastBelow N l 0 (children N p) → b ≡ 0 → at p childWord ≡ linkTo N p l
-unfolding linkTo
-link-first N p l b e z = rw (← e, eq-eqb b 0 z)
+pub word-first : (p b : ℕ) → b ≡ 0 → at p childWord ≡ wordBehind p b
+unfolding wordBehind
+word-first p b z = rw (eq-eqb b 0 z)
 
-pub link-after : (N : List ℕ) (p l b : ℕ) → b ≡ lastBelow N l 0 (children N p) → (b ≡ 0 → ⊥) → at b nextWord ≡ linkTo N p l
-unfolding linkTo
-link-after N p l b e z = rw (← e, ne-eqb b 0 z)
+pub word-after : (p b : ℕ) → (b ≡ 0 → ⊥) → at b nextWord ≡ wordBehind p b
+unfolding wordBehind
+word-after p b z = rw (ne-eqb b 0 z)
+
+pub word-inside : (N : List ℕ) (p b : ℕ) → p < size N → b < size N → wordBehind p b < length N
+word-inside N p b hp hb = ⊎-elim
+    (λ (z : b ≡ 0). omega (arith, word-first p b z))
+    (λ (g : 0 < b). omega (arith, word-after p b (λ z. omega arith)))
+    (zero-or b)
+
+pub link-word-inside : {N : List ℕ} {p b l f : ℕ} → LinksBehind N p b l f → wordBehind p b < length N
+link-word-inside {N} {p} {b} K = word-inside N p b (K .links .reads .inside) (K .inside)
+
+pub word-is-link : (N : List ℕ) (p l b : ℕ) → b ≡ lastBelow N l 0 (children N p) → wordBehind p b ≡ linkTo N p l
+unfolding linkTo wordBehind
+word-is-link N p l b e = rw e
 
 -- the chain that a node is taken from
 pub parent-reads : {N : List ℕ} {i q : ℕ} → Unlinks N i → q ≡ parent N i → Reads N q

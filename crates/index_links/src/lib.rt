@@ -7,7 +7,7 @@ ghost use Rattle.ground.specs.Limits.{twoLimit};
 ghost use Rattle.ground.specs.Laid.{laid};
 ghost use Rattle.nodes.specs.Nodes.{wordsPerNode, at, parentWord, tagWord, size, children};
 ghost use Rattle.index_links.specs.Links.{childWith, lastBelow, linkTo, link as linked, unlink as unlinked};
-ghost use Rattle.index_links.specs.Inner.{Reads, LinksTo, Unlinks};
+ghost use Rattle.index_links.specs.Inner.{Reads, LinksTo, LinksBehind, Unlinks, wordBehind};
 use nodes::CHILD;
 use nodes::DEPTH;
 use nodes::LABEL;
@@ -65,16 +65,24 @@ fn last_below(nodes: &[u16], p: usize, l: u16) -> usize
     b
 }
 
+// The word of the link to what follows p's child b; where b is 0, of the link to p's first child.
+fn word_behind(p: usize, b: usize) -> usize
+    requires { ⌜ p < twoLimit ⌝ ∗ ⌜ b < twoLimit ⌝ }
+    ensures { λ r. ⌜ r ≡ wordBehind p b ⌝ }
+{
+    if b == 0 {
+        return p * WORDS + CHILD;
+    }
+    b * WORDS + NEXT
+}
+
 // The word in which the link to p's child with the label l stands, or has to stand.
 fn link_to(nodes: &[u16], p: usize, l: u16) -> usize
     requires { ⌜ Reads (now nodes) p ⌝ }
     ensures { λ r. ⌜ r ≡ linkTo (now (nodes .entry)) p l ⌝ ∗ ⌜ r < length (now (nodes .entry)) ⌝ }
 {
     let b = last_below(nodes, p, l);
-    if b == 0 {
-        return p * WORDS + CHILD;
-    }
-    b * WORDS + NEXT
+    word_behind(p, b)
 }
 
 // Sets word k of node i.
@@ -98,16 +106,25 @@ fn put_node(nodes: &mut [u16], f: usize, parent: u16, next: u16, label: u16, dep
     set_word(nodes, f, TAG, 0);
 }
 
+// Links node f in as p's child with the label l, behind b, the last child with a label below l; b is 0 where there is none.
+pub fn link_behind(nodes: &mut [u16], p: usize, b: usize, l: u16, f: usize)
+    requires { ⌜ LinksBehind (now nodes) p b l f ⌝ }
+    ensures { λ _. ⌜ now (nodes .exit) ≡ linked (now (nodes .entry)) p l f ⌝ }
+{
+    let w = word_behind(p, b);
+    let rest = nodes[w];
+    let depth = depth_at(nodes, p) + 1;
+    put_node(nodes, f, narrow16(p), rest, l, narrow16(depth));
+    nodes[w] = narrow16(f);
+}
+
 // Links node f in as p's child with the label l.
 pub fn link(nodes: &mut [u16], p: usize, l: u16, f: usize)
     requires { ⌜ LinksTo (now nodes) p f ⌝ }
     ensures { λ _. ⌜ now (nodes .exit) ≡ linked (now (nodes .entry)) p l f ⌝ }
 {
-    let w = link_to(nodes, p, l);
-    let rest = nodes[w];
-    let depth = depth_at(nodes, p) + 1;
-    put_node(nodes, f, narrow16(p), rest, l, narrow16(depth));
-    nodes[w] = narrow16(f);
+    let b = last_below(nodes, p, l);
+    link_behind(nodes, p, b, l, f);
 }
 
 // Zeroes and unlinks node i.

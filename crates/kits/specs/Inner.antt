@@ -1,15 +1,14 @@
 -- Inner: no promise of the house rests on what stands here; inner contracts and proofs speak by it.
--- Good rows, rows of 64 places and their lines, and inclusion decided label by label.
+-- Good rows, rows of 64 places, and inclusion decided label by label.
 use mathlib.Core.Path.{_≡_}
 use mathlib.Core.Bool.{Bool, true, false, _&&_, cond}
 use mathlib.Core.List.{List, [], _∷_, _++_, map}
-use Prim.Native.Nat.{ℕ, suc, _+_, _/_, _≤_, _<_, _-_}
-use lib.ListN.{length, replicate, getD, take, drop}
+use Prim.Native.Nat.{ℕ, suc, _+_, _≤_, _<_, _-_}
+use lib.ListN.{length, replicate, getD, take}
 use lib.Dec.{ltb, eqb}
-use Rattle.ground.specs.Lists.{eqList, from, firstOr}
-use Rattle.kits.specs.Kits.{mostQuantity, mostUnits, mostPlace, count, before, listOf}
+use Rattle.ground.specs.Lists.{eqList, from}
+use Rattle.kits.specs.Kits.{mostQuantity, mostUnits, mostPlace, count, before}
 use Rattle.kits.specs.declared.Row.{Row}
-use Rattle.kits.specs.declared.Line.{Line}
 use Rattle.kits.specs.declared.Compared.{Compared}
 use Rattle.kits.specs.declared.Compared.the-variants.{Before, Same, After}
 
@@ -49,7 +48,7 @@ pub record GoodRow (n : ℕ) (r : List ℕ) : Type 0 where
   pub few : (p : ℕ) → count p r ≤ mostQuantity
 
 ------------------------------------------------------------------------
--- A kit "held once a checked list as a fixed row of 64 places with its length": rows, their order, and their lines
+-- A kit "held once a checked list as a fixed row of 64 places with its length": rows, and their order
 
 -- the row of some units; what lies behind them is 0
 abbrev pub fixedRow : List ℕ → Row
@@ -67,23 +66,6 @@ compared a b = cond (before a b) Before (cond (eqList a b) Same After)
 unfoldable pub quantities : List ℕ → List ℕ
 quantities l = map (quantity l) (from 0 (mostPlace + 1))
 
--- how often p stands at the front of some units
-unfoldable pub runLength : ℕ → List ℕ → ℕ
-runLength p [] = 0
-runLength p (x ∷ xs) = cond (eqb x p) (suc (runLength p xs)) 0
-
--- the line of some units that starts at a position, and where the next starts
-unfoldable pub lineAt : List ℕ → ℕ → Line
-lineAt us at = record {
-  place = getD us at 0;
-  quantity = runLength (getD us at 0) (drop at us);
-  next = at + runLength (getD us at 0) (drop at us);
-}
-
--- of how many lines the list of some units is
-abbrev pub lineCount : List ℕ → ℕ
-lineCount us = length (listOf us) / 2
-
 ------------------------------------------------------------------------
 -- Inclusion decided label by label along a row: what a walk over rows keeps of the labels that it has passed
 
@@ -98,24 +80,8 @@ fitsAlong Q last had (x ∷ r) = cond (eqb x last)
     (ltb had (getD Q x 0) && fitsAlong Q last (suc had) r)
     (ltb 0 (getD Q x 0) && fitsAlong Q x 1 r)
 
-abbrev pub isWanted : List ℕ → ℕ → Bool
-isWanted Q p = ltb 0 (getD Q p 0)
-
--- the lowest place from a on that Q has; where there is none, the one behind the greatest
-unfoldable pub nextWanted : List ℕ → ℕ → ℕ
-nextWanted Q a = firstOr (mostPlace + 1) (isWanted Q) (from a (mostPlace + 1 - a))
-
--- a row that contains a list whose quantities are Q: `want` is the lowest place of which too few have come, and `got` of it have;
--- smaller labels pass, and none may come above it
-unfoldable pub coversAlong : List ℕ → ℕ → ℕ → List ℕ → Bool
-coversAlong Q want got [] = eqb want (mostPlace + 1)
-coversAlong Q want got (x ∷ r) = cond (ltb x want)
-    (coversAlong Q want got r)
-    (eqb x want && cond (ltb (suc got) (getD Q want 0)) (coversAlong Q want (suc got) r) (coversAlong Q (nextWanted Q (suc want)) 0 r))
-
--- What is wanted behind the labels r: w is the lowest place of which they have too few, and they have g of it
-pub record Wanted (Q r : List ℕ) (w g : ℕ) : Type 0 where
-  pub most : w ≤ mostPlace + 1
-  pub enough : (p : ℕ) → p < w → getD Q p 0 ≤ count p r
-  pub got : g ≡ count w r
-  pub short : w ≤ mostPlace → g < getD Q w 0
+-- a row that contains some units, both rising: the first of them is wanted; smaller labels pass, and none may come above it
+unfoldable pub coversAlong : List ℕ → List ℕ → Bool
+coversAlong [] r = true
+coversAlong (u ∷ us) [] = false
+coversAlong (u ∷ us) (x ∷ r) = cond (ltb x u) (coversAlong (u ∷ us) r) (eqb x u && coversAlong us r)

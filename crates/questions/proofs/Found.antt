@@ -4,10 +4,11 @@ use mathlib.Core.Bool.{Bool, true, false, cond, not, _&&_}
 use mathlib.Core.List.{List, [], _∷_, _++_, map, append-assoc, append-nil, List·Memᴰ}
 use Prim.Native.Nat.{ℕ, zero, suc, _≤_, _<_}
 use native.Mathlib.Omega.{arith}
-use lib.ListN.{length}
+use lib.ListN.{length, length-map}
 use lib.Dec.{eqb}
 use borrow.Author.Tests.{ne-eqb}
 use Rattle.ground.specs.Lists.{keep, from}
+use Rattle.ground.specs.Laid.{Put}
 use Rattle.ground.proofs.Laws.{length-from}
 use Rattle.nodes.specs.Nodes.{parent, child, next, label, tag, tagged, size, rowOf}
 use Rattle.nodes.specs.Inner.{Used, Live, Shape, walk, walkAll}
@@ -67,6 +68,10 @@ module _ {parts : ℕ} {N : List ℕ} (S : Shape parts N) (test : List ℕ → B
     no-longer (walkAll N) (from 0 (size N)) (walk-once S)
         (λ i m. mem-from (size N) 0 i (omega arith) (omega (arith, live-inside (climb S) i (walk-only S i m)))),
   )
+
+  -- so a walk sets down no more words, one for each node found
+  pub no-more-than-nodes : (f : ℕ → ℕ) {o o′ : List ℕ} {n r : ℕ} → Put o 0 (map f (foundIn test N)) r o′ → n ≡ size N → r ≤ n
+  no-more-than-nodes f w e = omega (arith, w .behind, length-map (foundIn test N) f, found-few)
 
   -- where no row passes that goes on from the node above with a label of at least this one, none does here, below or behind
   pub found-dead : (i : ℕ) → Live N i →

@@ -1,41 +1,21 @@
--- A kit record set down: the lines of a row one after the other, behind the tag and the line count.
-use mathlib.Core.Path.{_≡_, refl}
+-- A kit record: how many bytes it takes, and the lines set down behind the tag and the line count.
+use mathlib.Core.Path.{_≡_, refl, ap}
 use mathlib.Core.Bool.{Bool, true, false, cond}
 use mathlib.Core.List.{List, [], _∷_, _++_}
-use Prim.Native.Nat.{ℕ, suc, _+_, _*_, _/_, _≤_, _<_}
+use Prim.Native.Nat.{ℕ, suc, _+_, _*_, _/_, _≤_}
 use native.Mathlib.Omega.{arith}
-use lib.ListN.{length, drop, set, getD, length-drop}
+use lib.ListN.{length, set}
 use lib.Dec.{eqb}
 use Rattle.ground.specs.Laid.{Put}
 use Rattle.ground.proofs.Put.{Rest, rest-start, rest-put, rest-byte, put-one}
-use Rattle.kits.specs.Kits.{mostUnits, mostPlace, linesFrom, listOf}
-use Rattle.kits.specs.Inner.{GoodRow, lineAt}
-use Rattle.kits.specs.declared.Line.{Line}
-use Rattle.kits.proofs.Rows.{lines-from, line-next, no-lines, run-short}
+use Rattle.kits.specs.Kits.{mostPlace, linesFrom, listOf}
+use Rattle.kits.specs.Inner.{GoodRow}
 use Rattle.kits.proofs.Good.{good-lines}
 use Rattle.kits.proofs.Units.{row-list-good}
 use Rattle.sheet.specs.Bytes.{inBytes, two}
 use Rattle.sheet.specs.Sheet.{placeBytes, lineBytes, lineWords, countAt, linesAt, lineItems, recordItem}
-use Rattle.sheet.specs.Inner.{kitOf}
+use Rattle.sheet.specs.Inner.{kitOf, recordBytes}
 use Rattle.sheet.proofs.Written.{items-length}
-
--- the lines of a row, one after the other
-module _ (us : List ℕ) (at : ℕ) (r : Line) (h : at < length us) (e : r ≡ lineAt us at) where
-  pub lines-step :
-      lineItems placeBytes (listOf (drop at us)) ≡ (inBytes placeBytes (r .place) ++ (r .quantity ∷ [])) ++ lineItems placeBytes (listOf (drop (r .next) us))
-  unfolding lineItems inBytes
-  lines-step = rw (e, lines-from us at h)
-
-  pub line-small : length us ≤ mostUnits → r .quantity < 256
-  unfolding lineAt
-  line-small k = rw e (omega (arith, run-short (getD us at 0) (drop at us), length-drop at us))
-
-  pub line-on : at < r .next
-  line-on = rw e (line-next us at h)
-
-pub lines-end : (us : List ℕ) (at : ℕ) → length us ≤ at → lineItems placeBytes (listOf (drop at us)) ≡ []
-unfolding lineItems
-lines-end us at h = rw (no-lines us at h)
 
 few-from : (p q : ℕ) (us : List ℕ) → length (linesFrom p q us) ≤ 2 + 2 * length us
 unfolding linesFrom
@@ -58,13 +38,25 @@ pub record-size : (r : List ℕ) (t : ℕ) → GoodRow mostPlace r →
 unfolding recordItem inBytes
 record-size r t g = omega (arith, items-length (good-lines mostPlace (listOf r) (row-list-good mostPlace r g)) placeBytes)
 
+-- the record of a row is its tag and the bytes of its lines
+pub record-bytes : (r : List ℕ) (t : ℕ) → GoodRow mostPlace r → recordBytes t (lineItems placeBytes (listOf r)) ≡ recordItem placeBytes (kitOf r t)
+unfolding recordBytes recordItem
+record-bytes r t g =
+    let ls = lineItems placeBytes (listOf r) in
+    let e : length ls / lineBytes placeBytes ≡ length (listOf r) / lineWords = omega
+    (arith, items-length (good-lines mostPlace (listOf r) (row-list-good mostPlace r g)) placeBytes) in
+    ap (λ (n : ℕ). two t ++ (n ∷ ls)) e
+
+pub record-long : (t : ℕ) (ls : List ℕ) → length (recordBytes t ls) ≡ linesAt + length ls
+unfolding recordBytes inBytes
+record-long t ls = omega arith
+
 -- the tag and the line count are set down, and the lines are to come
-pub kit-going : {l m : List ℕ} {r : ℕ} (us : List ℕ) (t n : ℕ) → Put l 0 (two t) r m → n ≡ length (listOf us) / lineWords →
-    length (recordItem placeBytes (kitOf us t)) ≤ length l →
-    Rest l 0 (recordItem placeBytes (kitOf us t)) (set m countAt n) linesAt (lineItems placeBytes (listOf us))
-unfolding recordItem inBytes
-kit-going {l} {m} us t n p e h =
-    let all = recordItem placeBytes (kitOf us t) in
+pub kit-going : {l m : List ℕ} {r : ℕ} (ls : List ℕ) (t n : ℕ) → Put l 0 (two t) r m → n ≡ length ls / lineBytes placeBytes →
+    length (recordBytes t ls) ≤ length l → Rest l 0 (recordBytes t ls) (set m countAt n) linesAt ls
+unfolding recordBytes inBytes
+kit-going {l} {m} ls t n p e h =
+    let all = recordBytes t ls in
     let t = rest-put (rest-start l 0 all (omega arith)) refl (put-at p) in
     rest-byte t refl e (put-one m countAt n)
   where

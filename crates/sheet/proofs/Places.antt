@@ -13,10 +13,11 @@ use borrow.Author.Tests.{le-leb, lt-leb, leb-true}
 use Rattle.ground.specs.Limits.{byteLimit}
 use Rattle.ground.specs.Laid.{laid}
 use Rattle.ground.proofs.Laid.{laid-front, laid-nil, laid-set}
+use Rattle.repeats.specs.Inner.{numberHere, nextPlace}
 use Rattle.kits.specs.Kits.{units}
 use Rattle.sheet.specs.Bytes.{valueFrom, fromBytes, twoBytes}
 use Rattle.sheet.specs.Sheet.{placeBytes, lineBytes, countAt, linesAt}
-use Rattle.sheet.specs.Inner.{recordWords, numberHere, nextPlace, numbersAt, endAt, recordAt, recordEnd, linesSize, listAt, WholeAt}
+use Rattle.sheet.specs.Inner.{recordWords, numbersAt, endAt, recordAt, recordEnd, linesSize, listAt, WholeAt}
 use Rattle.sheet.specs.Reading.{numberSize, recordSize, linesRead, listIn, kitIn}
 
 ------------------------------------------------------------------------
@@ -33,25 +34,6 @@ two-value s at h =
 -- Numbers
 
 module _ (s : List ℕ) where
-  -- the first number, and those behind it
-  pub end-step : (j i k : ℕ) → i < k → endAt s j (k - i) ≡ endAt s (nextPlace s j) (k - (i + 1))
-  unfolding endAt
-  end-step j i k h = let e : k - i ≡ suc (k - (i + 1)) = omega arith in rw e
-
-  pub numbers-at-step : (j i k : ℕ) → i < k → numbersAt s j (k - i) ≡ numberHere s j ∷ numbersAt s (nextPlace s j) (k - (i + 1))
-  unfolding numbersAt
-  numbers-at-step j i k h = let e : k - i ≡ suc (k - (i + 1)) = omega arith in rw e
-
-  pub numbers-at-end : (j i k : ℕ) → k ≤ i → numbersAt s j (k - i) ≡ []
-  unfolding numbersAt
-  numbers-at-end j i k h = let e : k - i ≡ 0 = omega arith in rw e
-
-  pub end-behind : (j k : ℕ) → j ≤ endAt s j k
-  unfolding endAt
-  end-behind j zero = omega arith
-  end-behind j (suc k) = omega (arith, end-behind (nextPlace s j) k)
-
-  -- the last number
   pub end-last : (j k : ℕ) → endAt s j (suc k) ≡ nextPlace s (endAt s j k)
   unfolding endAt
   end-last j zero = refl

@@ -1,15 +1,17 @@
 -- Inner: no promise of the house rests on what stands here; inner contracts and proofs speak by it.
 -- Contents that fit the format, the format's sizes, and what stands in a sheet from a place on.
 use mathlib.Core.Bool.{Bool, true, _&&_, cond}
-use mathlib.Core.List.{List, [], _∷_}
-use Prim.Native.Nat.{ℕ, zero, suc, _+_, _*_, _≤_}
+use mathlib.Core.List.{List, [], _∷_, _++_}
+use Prim.Native.Nat.{ℕ, zero, suc, _+_, _*_, _/_, _≤_}
 use lib.ListN.{length, take, drop, getD}
 use lib.Dec.{leb, ltb, eqb}
 use Rattle.ground.specs.Lists.{allb, every, distinct, eqList}
 use Rattle.ground.specs.Limits.{mostParts, twoLimit}
+use Rattle.repeats.specs.Inner.{numberHere, nextPlace}
 use Rattle.register.specs.Number.{goodNumber}
 use Rattle.kits.specs.Kits.{goodList, listOf, before, mostUnits}
 use Rattle.nodes.specs.Held.{Kit, tagsOf}
+use Rattle.sheet.specs.Bytes.{two}
 use Rattle.sheet.specs.Sheet.{Contents, placeBytes, lineBytes, countAt, linesAt}
 use Rattle.sheet.specs.Reading.{recordSize}
 
@@ -59,15 +61,12 @@ mostRecord = 131
 abbrev pub kitOf : List ℕ → ℕ → Kit
 kitOf r t = record { row = r; tag = t }
 
+-- a tag, a line count and the bytes of the lines
+unfoldable pub recordBytes : ℕ → List ℕ → List ℕ
+recordBytes t ls = two t ++ (length ls / lineBytes placeBytes ∷ ls)
+
 ------------------------------------------------------------------------
 -- Numbers in a sheet
-
--- the number that stands at a place, and where it ends
-abbrev pub numberHere : List ℕ → ℕ → List ℕ
-numberHere s j = take (getD s j 0) (drop (j + 1) s)
-
-abbrev pub nextPlace : List ℕ → ℕ → ℕ
-nextPlace s j = j + 1 + getD s j 0
 
 -- the first k numbers that stand from a place on, and where they end
 unfoldable pub numbersAt : List ℕ → ℕ → ℕ → List (List ℕ)

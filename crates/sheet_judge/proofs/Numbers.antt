@@ -1,4 +1,4 @@
--- Laws of the numbers of a sheet: those that stand from a place on, which one is repeated, and where the next ends.
+-- Laws of the numbers of a sheet: those that stand from a place on, and where the next ends.
 use mathlib.Core.Path.{_≡_, refl, ap, sym, _∙_}
 use mathlib.Core.Bool.{Bool, true, false, _||_, not}
 use mathlib.Core.List.{List, [], _∷_, _++_, append-assoc, append-nil}
@@ -10,27 +10,19 @@ use lib.ListN.{length, take, drop, getD, length-drop}
 use lib.Seq.{drop-drop}
 use Rattle.ground.specs.Lists.{anyb, every, eqList}
 use Rattle.ground.proofs.Laws.{anyb-append}
+use Rattle.repeats.specs.Inner.{numberHere, nextPlace}
 use Rattle.register.specs.Number.{goodNumber}
 use Rattle.sheet.specs.Reading.{Item, item, fault, onward, one, numberSize, newNumber, numbers}
-use Rattle.sheet.specs.Inner.{numberHere, nextPlace, numbersAt, endAt}
+use Rattle.sheet.specs.Inner.{headBytes, numbersAt, endAt}
 use Rattle.sheet.proofs.Places.{end-last, numbers-at-last, numbers-many, size-here, size-some, read-here}
 use Rattle.sheet_judge.specs.Inner.{placeOf, Numbered}
-use Rattle.sheet.specs.Inner.{headBytes}
 use Rattle.sheet_judge.proofs.Front.{one-short, one-bad, one-ok, place-fault, place-item, place-moved, place-stays, Moved}
 
 any-cons : (p : List ℕ → Bool) (x : List ℕ) (xs : List (List ℕ)) → anyb p (x ∷ xs) ≡ (p x || anyb p xs)
 unfolding anyb
 any-cons p x xs = refl
 
-pub any-yes : (p : List ℕ → Bool) (x : List ℕ) (xs : List (List ℕ)) → p x ≡ true → anyb p (x ∷ xs) ≡ true
-unfolding anyb
-any-yes p x xs e = rw e
-
-pub any-no : (p : List ℕ → Bool) (x : List ℕ) (xs : List (List ℕ)) → p x ≡ false → anyb p (x ∷ xs) ≡ anyb p xs
-unfolding anyb
-any-no p x xs e = rw e
-
-pub any-end : (p : List ℕ → Bool) → anyb p [] ≡ false
+any-end : (p : List ℕ → Bool) → anyb p [] ≡ false
 unfolding anyb
 any-end p = refl
 

@@ -1,14 +1,15 @@
 -- Laws of the kit records of a sheet: the record at a place, and the walk over all of them.
 use mathlib.Core.Path.{_≡_, refl, ap, sym, _∙_}
-use mathlib.Core.Bool.{Bool, true, false, _&&_, cond, not, and-false, and-true, false≢true}
+use mathlib.Core.Bool.{Bool, true, false, _&&_, _||_, cond, not, and-false, and-true, false≢true}
 use mathlib.Core.List.{List, [], _∷_}
-use Prim.Native.Nat.{ℕ, _+_, _≤_}
+use Prim.Native.Nat.{ℕ, _+_, _≤_, _<_}
 use native.Mathlib.Omega.{arith}
-use lib.ListN.{length, take, drop}
+use lib.ListN.{length, take, drop, getD}
 use lib.Dec.{leb}
 use borrow.Author.Tests.{leb-true, leb-false, eq-eqb, ne-eqb, not-false}
-use Rattle.ground.specs.Lists.{anyb, every, isZero}
-use Rattle.ground.proofs.Laws.{every-at, and-left, and-right}
+use Rattle.ground.specs.Limits.{twoLimit}
+use Rattle.ground.specs.Lists.{every, isZero}
+use Rattle.ground.proofs.Laws.{and-right}
 use Rattle.ground.specs.Calls.{Reply, isRefused, decide}
 use Rattle.kits.specs.Kits.{listFaults, goodList, units, before, mostUnits}
 use Rattle.kits.specs.Inner.{unitsIn, compared}
@@ -20,11 +21,18 @@ use Rattle.kits.proofs.Order.{compared-exactly}
 use Rattle.nodes.specs.Held.{Kit}
 use Rattle.sheet.specs.Bytes.{fromBytes, twoBytes}
 use Rattle.sheet.specs.Sheet.{placeBytes}
-use Rattle.sheet.specs.Reading.{fault, one, recordSize, hasTag, follows, newKit}
+use Rattle.sheet.specs.Reading.{fault, one, recordSize, follows, newKit}
 use Rattle.sheet.specs.Inner.{recordAt, recordEnd, listAt, WholeAt}
 use Rattle.sheet.proofs.Places.{size-at, list-is, tag-is, row-is}
-use Rattle.sheet_judge.specs.Inner.{goodLines, Latest}
+use Rattle.sheet_judge.specs.Inner.{goodLines, Tags, newTag, Latest}
 use Rattle.sheet_judge.proofs.Front.{one-short}
+
+regroup : (a b c d e : Bool) → (a && (not (not b) && (c && (d && (e && true))))) ≡ (((a && b) && (c && d)) && e)
+regroup false b c d e = refl
+regroup true false c d e = refl
+regroup true true false d e = refl
+regroup true true true false e = refl
+regroup true true true true e = and-true e
 
 -- The record at a place
 module _ (s : List ℕ) (at : ℕ) where
@@ -47,56 +55,45 @@ module _ (s : List ℕ) (at : ℕ) where
       abbrev U : List ℕ
       U = units (listAt s at)
 
-      new-is :
-          newKit placeBytes parts seen (recordAt s at) ≡ every
-          (not (isZero T) ∷ not (anyb (hasTag T) seen) ∷ goodList parts (listAt s at) ∷ leb (length U) mostUnits ∷ follows U seen ∷ [])
-      unfolding newKit
-      new-is = rw (tag-is s at h, row-is s at h, list-is s at h)
+      pub new-is : (marks : List ℕ) (t : ℕ) → Tags marks seen → t ≡ T → t < twoLimit →
+          newKit placeBytes parts seen (recordAt s at) ≡ ((newTag marks t && goodLines parts (listAt s at)) && follows U seen)
+      unfolding newKit every newTag goodLines
+      new-is marks t k e small =
+          rw (tag-is s at h, row-is s at h, list-is s at h, ← e, k t small)
+          (regroup (not (isZero t)) (isZero (getD marks t 0)) (goodList parts (listAt s at)) (leb (length U) mostUnits) (follows U seen))
 
-      pub new-short : true ≡ newKit placeBytes parts seen (recordAt s at) → length U ≤ mostUnits
-      new-short e = leb-true (length U) mostUnits (every-at _ 3 (sym new-is ∙ sym e))
+-- what a record is judged by, one after the other
+module _ (marks : List ℕ) (t : ℕ) (lines : Bool) where
+  pub tag-none : t ≡ 0 → false ≡ (newTag marks t && lines)
+  unfolding newTag
+  tag-none e = rw (eq-eqb t 0 e)
 
-      pub new-zero : T ≡ 0 → false ≡ newKit placeBytes parts seen (recordAt s at)
-      unfolding every
-      new-zero e = sym (new-is ∙ rw (eq-eqb T 0 e))
+  pub tag-marked : (getD marks t 0 ≡ 0 → ⊥) → false ≡ (newTag marks t && lines)
+  unfolding newTag
+  tag-marked f = rw (ne-eqb (getD marks t 0) 0 f, and-false)
 
-      module _ (f : (T ≡ 0 → ⊥)) where
-        pub new-seen : anyb (hasTag T) seen ≡ true → false ≡ newKit placeBytes parts seen (recordAt s at)
-        unfolding every
-        new-seen e = sym (new-is ∙ rw (e, and-false))
+  pub tag-new : (t ≡ 0 → ⊥) → getD marks t 0 ≡ 0 → lines ≡ (newTag marks t && lines)
+  unfolding newTag
+  tag-new f z = rw (ne-eqb t 0 f, eq-eqb (getD marks t 0) 0 z)
 
-        module _ (g : anyb (hasTag T) seen ≡ false) where
-          pub new-lines : goodLines parts (listAt s at) ≡ false → false ≡ newKit placeBytes parts seen (recordAt s at)
-          unfolding every goodLines
-          new-lines e = sym (new-is ∙ rw (ne-eqb T 0 f, g) (go (goodList parts (listAt s at)) (leb (length U) mostUnits) e))
-            where
-              go : (a b : Bool) → (a && b) ≡ false → (a && (b && (follows U seen && true))) ≡ false
-              go true true e = absurd (let v : _≡_ {A = ℕ} 0 1 = cc in omega arith)
-              go true false e = refl
-              go false b e = refl
+pub first-bad : {x : Bool} (a b : Bool) → x ≡ (a && b) → a ≡ false → x ≡ false
+first-bad a b e f = e ∙ rw f
 
-          pub new-good : goodLines parts (listAt s at) ≡ true → follows U seen ≡ newKit placeBytes parts seen (recordAt s at)
-          unfolding every goodLines
-          new-good e =
-              sym (new-is ∙ rw (
-                ne-eqb T 0 f,
-                g,
-                and-left (goodList parts (listAt s at)) (leb (length U) mostUnits) e,
-                and-right
-                    (goodList parts (listAt s at)) (leb (length U) mostUnits) e,
-              ) (and-true (follows U seen)))
+pub second-bad : {x : Bool} (a b : Bool) → x ≡ (a && b) → b ≡ false → x ≡ false
+second-bad a b e f = e ∙ rw (f, and-false)
 
 -- the row before
-pub first-follows : (prev : Row) (k : ℕ) (seen : List Kit) (u : List ℕ) → Latest prev k seen → k ≡ 0 → follows u seen ≡ true
+pub latest-follows : (prev : Row) (k : ℕ) (seen : List Kit) (u : List ℕ) → Latest prev k seen →
+    follows u seen ≡ (isZero k || before (unitsIn prev) u)
 unfolding Latest follows
-first-follows prev k [] u l e = refl
-first-follows prev k (x ∷ seen) u l e = absurd (omega (arith, l .0))
+latest-follows prev k [] u l = rw (eq-eqb k 0 l)
+latest-follows prev k (x ∷ seen) u l = rw (ne-eqb k 0 (λ z. omega (arith, l .0)), l .1)
 
-pub next-follows : (prev : Row) (k : ℕ) (seen : List Kit) (u : List ℕ) → Latest prev k seen → (k ≡ 0 → ⊥) →
-    follows u seen ≡ before (unitsIn prev) u
-unfolding Latest follows
-next-follows prev k [] u l e = absurd (e l)
-next-follows prev k (x ∷ seen) u l e = rw (l .1)
+pub first-free : (k : ℕ) (after : Bool) → k ≡ 0 → true ≡ (isZero k || after)
+first-free k after e = rw (eq-eqb k 0 e)
+
+pub later-told : {r : Bool} (k : ℕ) (after : Bool) → (k ≡ 0 → ⊥) → r ≡ after → r ≡ (isZero k || after)
+later-told k after f e = rw (ne-eqb k 0 f) e
 
 pub lines-short : (n : ℕ) (l : List ℕ) → goodLines n l ≡ true → length (units l) ≤ mostUnits
 unfolding goodLines

@@ -1,13 +1,15 @@
 -- Inner: no promise of the house rests on what stands here; inner contracts and proofs speak by it.
 -- What the judge of a sheet answers, and what each of its functions says of the sheet from a place on.
 use mathlib.Core.Path.{_≡_}
-use mathlib.Core.Bool.{Bool, _&&_, not}
+use mathlib.Core.Bool.{Bool, true, _&&_, not}
 use mathlib.Core.List.{List, [], _∷_}
 use Prim.Native.Nat.{ℕ, _+_, _-_, _≤_, _<_}
 use lib.ListN.{length, drop, getD}
 use lib.Dec.{leb}
 use Rattle.ground.specs.Limits.{mostParts, twoLimit}
 use Rattle.ground.specs.Lists.{anyb, isZero}
+use Rattle.repeats.specs.Inner.{numberHere, nextPlace}
+use Rattle.register.specs.Number.{goodNumber}
 use Rattle.kits.specs.Kits.{goodList, units, mostUnits}
 use Rattle.kits.specs.Inner.{agreed, unitsIn}
 use Rattle.kits.specs.declared.Row.{Row}
@@ -15,7 +17,7 @@ use Rattle.nodes.specs.Held.{Kit}
 use Rattle.sheet.specs.Bytes.{fromBytes, twoBytes}
 use Rattle.sheet.specs.Sheet.{Contents, placeBytes, nodesNeeded}
 use Rattle.sheet.specs.Inner.{headBytes}
-use Rattle.sheet.specs.Reading.{Item, item, fault, Reading, onward, one, bytes, anyTwo, numbers, hasTag, records, whole, decode}
+use Rattle.sheet.specs.Reading.{Item, item, fault, Reading, onward, one, bytes, anyTwo, numberSize, newNumber, numbers, hasTag, records, whole, decode}
 use Rattle.sheet.specs.declared.Sheet.{Sheet}
 use Rattle.sheet_judge.specs.declared.Judged.{Judged}
 use Rattle.sheet_judge.specs.declared.Judged.the-variants.{Fault, Good}
@@ -61,6 +63,11 @@ unfoldable pub placeOf : Item (List ℕ) → ℕ
 placeOf (item a bs o) = o
 placeOf (fault o) = o
 
+-- where the number at a place ends, a good one; where it is cut short or not good, where it starts
+pub record NumberEnds (s : List ℕ) (at r : ℕ) : Type 0 where
+  pub stays : r ≡ at → (seen : List (List ℕ)) → at ≡ placeOf (one numberSize (newNumber seen) (drop at s) at)
+  pub moves : (r ≡ at → ⊥) → (goodNumber (numberHere s at) ≡ true) × (nextPlace s at ≤ length s) × (r ≡ nextPlace s at)
+
 -- the lines of a list obey the rules, with n parts
 unfoldable pub goodLines : ℕ → List ℕ → Bool
 goodLines n l = goodList n l && leb (length (units l)) mostUnits
@@ -68,6 +75,10 @@ goodLines n l = goodList n l && leb (length (units l)) mostUnits
 -- the marks of the tags seen: not 0 where a kit bears the tag
 abbrev pub Tags : List ℕ → List Kit → Type 0
 Tags marks seen = (t : ℕ) → t < twoLimit → anyb (hasTag t) seen ≡ not (isZero (getD marks t 0))
+
+-- a tag, and none that is marked
+unfoldable pub newTag : List ℕ → ℕ → Bool
+newTag marks t = not (isZero t) && isZero (getD marks t 0)
 
 -- prev is the row of the latest of k kits seen
 unfoldable pub Latest : Row → ℕ → List Kit → Type 0

@@ -1,18 +1,18 @@
 // Document 01, "Only a faultless sheet can get 12": the judge of a whole sheet, which touches no table. It answers the offset where the first
 // faulty item starts, or the counts of a faultless sheet and the nodes that it needs.
 ghost use mathlib.Core.Path.{_≡_};
-ghost use mathlib.Core.Bool.{true, false};
+ghost use mathlib.Core.Bool.{_&&_, _||_};
 ghost use mathlib.Core.List.{List, []};
 ghost use Prim.Native.Nat.{ℕ, _+_, _<_, _≤_};
 ghost use lib.ListN.{length, drop};
-ghost use Rattle.ground.specs.Limits.{mostParts};
-ghost use Rattle.ground.specs.Lists.{anyb, eqList};
-ghost use Rattle.kits.specs.Kits.{mostUnits};
-ghost use Rattle.nodes.specs.Held.{Kit};
+ghost use Rattle.ground.specs.Limits.{byteLimit, mostParts, twoLimit};
+ghost use Rattle.ground.specs.Lists.{isZero};
+ghost use Rattle.kits.specs.Kits.{mostUnits, before};
+ghost use Rattle.kits.specs.Inner.{unitsIn};
 ghost use Rattle.sheet.specs.Sheet.{placeBytes};
-ghost use Rattle.sheet.specs.Inner.{headBytes, numbersAt, endAt, recordAt, listAt, WholeAt};
-ghost use Rattle.sheet.specs.Reading.{onward, one, numbers, numberSize, newNumber, newKit, records, whole, decode};
-ghost use Rattle.sheet_judge.specs.Inner.{judgedOf, behindNumbers, headSays, numbersSay, placeOf, goodLines, Tags, Latest};
+ghost use Rattle.sheet.specs.Inner.{headBytes};
+ghost use Rattle.sheet.specs.Reading.{onward, numbers, records, whole, decode};
+ghost use Rattle.sheet_judge.specs.Inner.{judgedOf, behindNumbers, headSays, numbersSay, NumberEnds, goodLines, newTag};
 use answers::refused;
 use ground::same;
 use ground::wide16;
@@ -23,15 +23,18 @@ use kits::agree;
 use kits::check_list;
 use kits::compare;
 use kits::has_room;
+use kits::row_of;
 use register::good_number;
+use repeats::HASHES;
+use repeats::MOST_ENTRIES;
+use repeats::number_here;
+use repeats::repeats_earlier;
 use sheet::Sheet;
 use sheet::TWO_BYTES;
 use sheet::item_size;
 use sheet::lines_size;
 use sheet::list_in;
-use sheet::number_here;
 use sheet::record_end;
-use sheet::row_in;
 use sheet::two_at;
 
 // A two-byte tag is one of so many.
@@ -78,28 +81,10 @@ fn read_head(s: &[u8]) -> Read
     Read::Done(wide16(count))
 }
 
-// Whether a number is one of the first k of the sheet.
-fn repeated(s: &[u8], k: usize, num: &[u8]) -> bool
-    requires { ⌜ endAt (now s) headBytes k ≤ length (now s) ⌝ }
-    ensures { λ r. ⌜ r ≡ anyb (eqList (now (num .entry))) (numbersAt (now (s .entry)) headBytes k) ⌝ }
-{
-    let mut at = Sheet::HEAD;
-    let mut i = 0;
-    while i < k {
-        if same(num, number_here(s, at)) {
-            return true;
-        }
-        at += item_size(s, at);
-        i += 1;
-    }
-    false
-}
-
-// Where the number at a place ends, behind k numbers; where it is at fault, where it starts.
-fn number_end(s: &[u8], at: usize, k: usize) -> usize
-    requires { ⌜ endAt (now s) headBytes k ≤ length (now s) ⌝ ∗ ⌜ at ≤ length (now s) ⌝ }
-    ensures { λ r. ⌜ ((seen : List (List ℕ)) → ((x : List ℕ) → anyb (eqList x) seen ≡ anyb (eqList x) (numbersAt (now (s .entry)) headBytes k)) → r ≡ placeOf
-        (one numberSize (newNumber seen) (drop at (now (s .entry))) at)) ⌝ }
+// Where the number at a place ends; where it is cut short or not good, where it starts.
+fn number_end(s: &[u8], at: usize) -> usize
+    requires { ⌜ at ≤ length (now s) ⌝ }
+    ensures { λ r. ⌜ NumberEnds (now (s .entry)) at r ⌝ ∗ ⌜ r ≤ at + byteLimit ⌝ }
 {
     if s.len() == at {
         return at;
@@ -108,26 +93,29 @@ fn number_end(s: &[u8], at: usize, k: usize) -> usize
     if s.len() - at < size {
         return at;
     }
-    let num = number_here(s, at);
-    if !good_number(num) {
-        return at;
-    }
-    if repeated(s, k, num) {
+    if !good_number(number_here(s, at)) {
         return at;
     }
     at + size
 }
 
-// n numbers, behind the head.
+// n numbers, behind the head: each a good one, and none of those before it.
 fn read_numbers(s: &[u8], n: usize) -> Read
-    requires { ⌜ headBytes ≤ length (now s) ⌝ }
+    requires { ⌜ headBytes ≤ length (now s) ⌝ ∗ ⌜ n ≤ mostParts ⌝ }
     ensures { λ r. ⌜ numbersSay (now (s .entry)) n r ⌝ }
 {
+    let mut offsets = [0; MOST_ENTRIES];
+    let mut lasts = [0; HASHES];
+    let mut earlier = [0; MOST_ENTRIES];
     let mut at = Sheet::HEAD;
     let mut k = 0;
     while k < n {
-        let end = number_end(s, at, k);
+        let end = number_end(s, at);
         if end == at {
+            return Read::Fault(at);
+        }
+        offsets[k] = at as u32;
+        if repeats_earlier(s, &offsets, k, &mut lasts, &mut earlier) {
             return Read::Fault(at);
         }
         at = end;
@@ -136,44 +124,48 @@ fn read_numbers(s: &[u8], n: usize) -> Read
     Read::Done(at)
 }
 
-// Whether the lines of the record at a place obey the rules, with so many parts.
-fn lines_good(s: &[u8], at: usize, parts: u16) -> bool
-    requires { ⌜ WholeAt (now s) at ⌝ }
-    ensures { λ r. ⌜ r ≡ goodLines parts (listAt (now (s .entry)) at) ⌝ }
+// Whether a record's tag and its list are good, with so many parts: the tag is one, none that was seen, and the lines obey the rules.
+fn record_good(tag: usize, tags: &[u8; TAGS], list: &[u16], parts: u16) -> bool
+    requires { ⌜ tag < twoLimit ⌝ }
+    ensures { λ r. ⌜ r ≡ (newTag (now (tags .entry)) tag && goodLines parts (now (list .entry))) ⌝ }
 {
-    let n = lines_size(s, at);
-    let list = list_in(s, at);
-    if refused(check_list(&list[0..n], parts)) {
-        return false;
-    }
-    has_room(&list[0..n])
-}
-
-// Whether the record at a place, behind k others, is good: its tag, its lines, and that it comes after the one before.
-fn record_good(s: &[u8], at: usize, parts: u16, prev: Row, k: usize, tags: &[u8; TAGS]) -> bool
-    requires { ⌜ WholeAt (now s) at ⌝ ∗ ⌜ prev .len ≤ mostUnits ⌝ }
-    ensures { λ r. ⌜ ((seen : List Kit) → Tags (now (tags .entry)) seen → Latest prev k seen → r ≡ newKit placeBytes parts seen (recordAt (now (s .entry)) at)) ⌝ }
-{
-    let tag = wide16(two_at(s, at));
     if tag == 0 {
         return false;
     }
     if tags[tag] != 0 {
         return false;
     }
-    if !lines_good(s, at, parts) {
+    if refused(check_list(list, parts)) {
         return false;
     }
+    has_room(list)
+}
+
+// The row before the first record's.
+pub fn no_row() -> Row
+    ensures { λ r. ⌜ (r .len ≡ 0) × (unitsIn r ≡ []) ⌝ }
+{
+    Row {
+        places: [0; MOST_UNITS],
+        len: 0,
+    }
+}
+
+// Whether a row comes after the one before; the first of all comes after none.
+fn comes_after(prev: Row, row: Row, k: usize) -> bool
+    requires { ⌜ (prev .len ≤ mostUnits) × (row .len ≤ mostUnits) ⌝ }
+    ensures { λ r. ⌜ r ≡ (isZero k || before (unitsIn prev) (unitsIn row)) ⌝ }
+{
     if k == 0 {
         return true;
     }
-    let Compared::Before = compare(prev, row_in(s, at)) else {
+    let Compared::Before = compare(prev, row) else {
         return false;
     };
     true
 }
 
-// The kit records from a place on, and the end.
+// The kit records from a place on, and the end. A record's list and its row are built once.
 fn judge_records(s: &[u8], from: usize, sheet: Sheet) -> Judged
     requires { ⌜ from ≤ length (now s) ⌝ }
     ensures { λ r. ⌜ ((ps : List (List ℕ)) → length ps ≡ sheet .parts → r ≡ judgedOf
@@ -182,10 +174,7 @@ fn judge_records(s: &[u8], from: usize, sheet: Sheet) -> Judged
     let parts = sheet.parts;
     let n = wide16(sheet.kits);
     let mut tags = [0; TAGS];
-    let mut prev = Row {
-        places: [0; MOST_UNITS],
-        len: 0,
-    };
+    let mut prev = no_row();
     let mut nodes: usize = 1;
     let mut at = from;
     let mut k = 0;
@@ -194,12 +183,17 @@ fn judge_records(s: &[u8], from: usize, sheet: Sheet) -> Judged
         if end == at {
             return Judged::Fault(at);
         }
-        if !record_good(s, at, parts, prev, k, &tags) {
+        let tag = wide16(two_at(s, at));
+        let size = lines_size(s, at);
+        let list = list_in(s, at);
+        if !record_good(tag, &tags, &list[0..size], parts) {
             return Judged::Fault(at);
         }
-        let row = row_in(s, at);
+        let row = row_of(&list[0..size]);
+        if !comes_after(prev, row, k) {
+            return Judged::Fault(at);
+        }
         nodes += row.len - agree(prev, row);
-        let tag = wide16(two_at(s, at));
         tags[tag] = 1;
         prev = row;
         at = end;

@@ -1,29 +1,32 @@
--- The loop over the kit records: what is known behind k of them, and the next insertion.
+-- The loop over the kit records: what is known behind k of them, and the next kit.
 use mathlib.Core.Path.{_≡_, refl, ap, sym, subst, _∙_}
-use mathlib.Core.List.{List, [], _∷_, List·Memᴰ·head}
+use mathlib.Core.List.{List, [], _∷_, _++_, List·Memᴰ·head}
 use Prim.Native.Nat.{ℕ, zero, suc, _+_, _-_, _≤_, _<_}
 use native.Mathlib.Nat.{sub-zero}
 use native.Mathlib.Omega.{arith}
 use lib.ListN.{length, take, drop}
 use Rattle.ground.specs.Laid.{zeroed}
-use Rattle.ground.specs.Calls.{Reply, Promise}
 use Rattle.kits.specs.Kits.{mostUnits, mostPlace, units}
 use Rattle.kits.specs.Inner.{GoodRow, unitsIn, fixedRow}
 use Rattle.kits.specs.declared.Row.{Row}
 use Rattle.kits.proofs.Rows.{row-back}
-use Rattle.nodes.specs.Inner.{Sound}
+use Rattle.nodes.specs.Inner.{Shape}
 use Rattle.nodes.specs.Held.{Kit}
+use Rattle.nodes.proofs.Fields.{length-sized}
+use Rattle.nodes.proofs.Rows.{climb, row-root}
 use Rattle.nodes.proofs.Sorted.{every-mem}
 use Rattle.index_insert.specs.Enter.{enter, enterAll}
-use Rattle.index.specs.Inner.{insertingRow}
-use Rattle.index_counts.proofs.Filled.{Fit, Fillable, fill-next}
+use Rattle.index_insert.specs.Inner.{Enters}
+use Rattle.index_append.specs.Inner.{LastEntered, Appendable}
+use Rattle.index_append.proofs.Upcoming.{Upcoming, upcoming-start, upcoming-ready, upcoming-next}
+use Rattle.index_counts.proofs.Filled.{Fit, Fillable, acceptable, fill-next}
 use Rattle.sheet.specs.Bytes.{fromBytes}
 use Rattle.sheet.specs.Sheet.{placeBytes}
 use Rattle.sheet.specs.Reading.{recordSize, kitIn}
 use Rattle.sheet.specs.Inner.{recordAt, recordEnd, listAt, WholeAt}
 use Rattle.sheet.proofs.Places.{size-at, end-whole, tag-is, row-is}
 use Rattle.sheet_read.specs.Inner.{kitsRead, endRead, KitsStand}
-use Rattle.sheet_read.proofs.Listed.{kits-fillable, inserting-enters}
+use Rattle.sheet_read.proofs.Listed.{kits-fillable, rising-earlier}
 
 module _ (s : List ℕ) where
   kits-step : (at k m : ℕ) → k < m →
@@ -52,23 +55,30 @@ enter-first : (N : List ℕ) (k : Kit) (ks : List Kit) → enterAll N (k ∷ ks)
 unfolding enterAll
 enter-first N k ks = refl
 
--- k of m records are entered, and the next starts at a place: the rest can be entered, and then the table is what all of them make of the
--- table Z
-pub record Filling (s : List ℕ) (from m : ℕ) (Z nodes : List ℕ) (at k : ℕ) : Type 0 where
+-- k of m records are entered in the first n nodes, prev is the row of the last one, and the next starts at a place: the rest can be entered, and
+-- then the table is what all of them make of the table Z
+pub record Filling (s : List ℕ) (from m : ℕ) (Z nodes : List ℕ) (prev : Row) (at n k : ℕ) : Type 0 where
   pub rest : Fillable mostPlace (kitsRead s from m) nodes (kitsRead s at (m - k))
   pub goes : enterAll nodes (kitsRead s at (m - k)) ≡ enterAll Z (kitsRead s from m)
+  pub upcoming : Upcoming nodes n (unitsIn prev) (kitsRead s at (m - k))
+  pub short : prev .len ≤ mostUnits
   pub inside : endRead s at (m - k) ≤ length s
 
-pub filling-start : {s : List ℕ} {from m : ℕ} {N Z : List ℕ} → KitsStand s from m N → Z ≡ zeroed N → Filling s from m Z Z from 0
-filling-start {s} {from} {m} {N} {Z} K e = record {
+pub filling-start : {s : List ℕ} {from m : ℕ} {N Z : List ℕ} {prev : Row} → KitsStand s from m N → Z ≡ zeroed N →
+    (prev .len ≡ 0) × (unitsIn prev ≡ []) → Filling s from m Z Z prev from 1 0
+filling-start {s} {from} {m} {N} {Z} K e none = record {
   rest =
       rw (e, sub-zero) (kits-fillable (K .parts) mostPlace (kitsRead s from m) N (K .few) (K .good) (K .unlike) (K .rises) (K .fits)
       (K .room));
   goes = rw sub-zero;
+  upcoming =
+      rw (e, none .1, sub-zero)
+      (upcoming-start N (kitsRead s from m) (length-sized N (K .fits)) (rising-earlier (kitsRead s from m) (K .rises)));
+  short = omega (arith, none .0);
   inside = rw sub-zero (K .inside);
 }
 
-module _ {s : List ℕ} {from m : ℕ} {Z nodes : List ℕ} {at k : ℕ} (F : Filling s from m Z nodes at k) where
+module _ {s : List ℕ} {from m : ℕ} {Z nodes : List ℕ} {prev : Row} {at n k : ℕ} (F : Filling s from m Z nodes prev at n k) where
   pub filling-end : m ≡ k → nodes ≡ enterAll Z (kitsRead s from m)
   filling-end e =
       let z : m - k ≡ 0 = omega arith in
@@ -94,12 +104,18 @@ module _ {s : List ℕ} {from m : ℕ} {Z nodes : List ℕ} {at k : ℕ} (F : Fi
     pub units-short : length (units (listAt s at)) ≤ mostUnits
     units-short = rw (← row-is s at record-whole) (fit .row .short)
 
-    on : Filling s from m Z (enter nodes 0 (kit .row) (kit .tag)) place (k + 1)
-    on = record {
-      rest = fill-next next;
-      goes = sym (enter-first nodes kit (kitsRead s place (m - (k + 1)))) ∙ ap (enterAll nodes) (sym (kits-step s at k m h)) ∙ F .goes;
-      inside = omega (arith, F .inside, end-step s at k m h);
-    }
+    enters : Enters mostPlace nodes 0 (kit .row)
+    enters =
+        let S : Shape mostPlace nodes = F .rest .sound .shape in
+        record {
+          shape = S;
+          live = λ g. absurd (omega arith);
+          row = subst (GoodRow mostPlace) (sym (ap (λ (r : List ℕ). r ++ kit .row) (row-root (climb S)))) (fit .row);
+          room = acceptable next .room;
+        }
+
+    upcoming-now : Upcoming nodes n (unitsIn prev) (kit ∷ kitsRead s place (m - (k + 1)))
+    upcoming-now = subst (Upcoming nodes n (unitsIn prev)) (kits-step s at k m h) (F .upcoming)
 
     -- the record's row and tag, as they are read
     module _ (row : Row) (e : row ≡ fixedRow (units (listAt s at))) (t : ℕ) (f : t ≡ fromBytes (take 2 (drop at s))) where
@@ -109,12 +125,26 @@ module _ {s : List ℕ} {from m : ℕ} {Z nodes : List ℕ} {at k : ℕ} (F : Fi
       is-tag : t ≡ kit .tag
       is-tag = f ∙ sym (tag-is s at record-whole)
 
-      pub may-insert : Sound mostPlace nodes × ((row .len ≤ mostUnits) × (GoodRow mostPlace (unitsIn row) × (0 < t)))
-      may-insert = (F .rest .sound, (rw e units-short, (rw is-row (fit .row), rw is-tag (fit .some-tag))))
+      may-be : row .len ≤ mostUnits
+      may-be = rw e units-short
 
-      pub filling-on : (a : Reply) (M : List ℕ) → Promise (insertingRow (unitsIn row) t nodes) nodes a M → (r : ℕ) → r ≡ recordEnd s at →
-          Filling s from m Z M r (k + 1)
-      filling-on a M p r q =
+      pub may-append : ((prev .len ≤ mostUnits) × (row .len ≤ mostUnits)) × Appendable nodes n (unitsIn prev) (unitsIn row)
+      may-append =
+          ((F .short, may-be), subst (Appendable nodes n (unitsIn prev)) (sym is-row) (upcoming-ready upcoming-now enters))
+
+      pub filling-on : {M : List ℕ} {n′ : ℕ} → M ≡ enter nodes 0 (unitsIn row) t → LastEntered M n′ (unitsIn row) → (r : ℕ) →
+          r ≡ recordEnd s at → Filling s from m Z M row r n′ (k + 1)
+      filling-on {M} {n′} p l r q =
           let u : r ≡ place = q ∙ sym (end-whole s at record-whole) ∙ (omega (arith, size-at s at)) in
-          let v : M ≡ enter nodes 0 (kit .row) (kit .tag) = (rw (is-row, is-tag) at (p .lent)) ∙ inserting-enters next in
-          rw (u, v) on
+          let v : M ≡ enter nodes 0 (kit .row) (kit .tag) = rw (is-row, is-tag) at p in
+          rw u (record {
+            rest = rw v (fill-next next);
+            goes =
+                ap (λ (x : List ℕ). enterAll x (kitsRead s place (m - (k + 1)))) v
+                ∙ sym (enter-first nodes kit (kitsRead s place (m - (k + 1)))) ∙ ap (enterAll nodes) (sym (kits-step s at k m h)) ∙ F .goes;
+            upcoming =
+                subst (λ (x : List ℕ). Upcoming M n′ x (kitsRead s place (m - (k + 1)))) (sym is-row)
+                (upcoming-next upcoming-now (subst (LastEntered M n′) is-row l));
+            short = may-be;
+            inside = omega (arith, F .inside, end-step s at k m h);
+          })

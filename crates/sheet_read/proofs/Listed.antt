@@ -158,7 +158,7 @@ kits-fillable n p ks N h g d r l room =
     }
 
 -- The next of them is inserted, so that the table is what it enters
-pub inserting-enters : {p : ℕ} {T : List Kit} {N : List ℕ} {k : Kit} {ks : List Kit} → Fillable p T N (k ∷ ks) →
+inserting-enters : {p : ℕ} {T : List Kit} {N : List ℕ} {k : Kit} {ks : List Kit} → Fillable p T N (k ∷ ks) →
     memory (insertingRow (k .row) (k .tag) N) N ≡ enter N 0 (k .row) (k .tag)
 unfolding insertingRow entryRefusals answer decide memory
 inserting-enters {N = N} {k = k} F =

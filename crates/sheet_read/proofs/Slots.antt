@@ -13,13 +13,13 @@ use Rattle.ground.specs.Lists.{allb, concat, isZero}
 use Rattle.ground.specs.Laid.{laid, zeroed}
 use Rattle.ground.proofs.Laws.{zeros-all, allb-drop, allb-take}
 use Rattle.ground.proofs.Laid.{laid-nil, laid-laid, laid-cons, drop-laid, length-laid}
+use Rattle.repeats.specs.Inner.{numberHere, nextPlace}
 use Rattle.register.specs.Number.{longestNumber}
 use Rattle.register.specs.Register.{slotBytes, slotOf, slotAt, slotCount, registerLength, registerOf}
 use Rattle.register.proofs.Entered.{length-slotOf, slot-written}
 use Rattle.register.proofs.Sound.{whole}
 use Rattle.sheet.specs.Sheet.{numberItem}
-use Rattle.sheet.specs.Inner.{headBytes}
-use Rattle.sheet.specs.Inner.{numberHere, nextPlace, numbersAt, endAt}
+use Rattle.sheet.specs.Inner.{headBytes, numbersAt, endAt}
 use Rattle.sheet.proofs.Places.{end-last, numbers-at-last, numbers-many}
 use Rattle.sheet_read.specs.Inner.{NumberStands, NumbersStand}
 

@@ -11,12 +11,13 @@ use Rattle.ground.specs.Limits.{mostParts}
 use Rattle.ground.specs.Calls.{Plan, plan, Promise}
 use Rattle.answers.specs.declared.Answer.{Answer}
 use Rattle.answers.specs.Answers.{reply}
+use Rattle.repeats.specs.Inner.{nextPlace}
 use Rattle.register.specs.Number.{longestNumber}
 use Rattle.register.specs.Register.{slotCount, registerLength}
 use Rattle.nodes.specs.Nodes.{size, nodesLength}
 use Rattle.nodes.specs.Held.{Kit, tagsOf, allBeginnings}
 use Rattle.sheet.specs.Sheet.{placeBytes}
-use Rattle.sheet.specs.Inner.{goodKit, rising, headBytes, nextPlace, endAt, recordAt}
+use Rattle.sheet.specs.Inner.{goodKit, rising, headBytes, endAt, recordAt}
 use Rattle.sheet.specs.Reading.{decode, said, recordSize, kitIn}
 use Rattle.sheet.specs.Calls.{sheetRefusals}
 use Rattle.ground.specs.Tables.{Tables}

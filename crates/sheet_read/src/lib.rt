@@ -4,12 +4,13 @@ ghost use mathlib.Core.Path.{_≡_};
 ghost use mathlib.Core.Bool.{true};
 ghost use Prim.Native.Nat.{_+_, _*_};
 ghost use Rattle.ground.specs.Laid.{laid, zeroed};
+ghost use Rattle.repeats.specs.Inner.{numberHere, nextPlace};
 ghost use Rattle.register.specs.Register.{slotBytes, slotCount, registerLength, registerOf};
 ghost use Rattle.nodes.specs.Nodes.{nodesLength};
 ghost use Rattle.index_insert.specs.Enter.{enterAll};
 ghost use Rattle.sheet.specs.Sheet.{numberItem};
 ghost use Rattle.sheet.specs.Bytes.{twoBytes};
-ghost use Rattle.sheet.specs.Inner.{headBytes, numberHere, nextPlace, numbersAt, endAt};
+ghost use Rattle.sheet.specs.Inner.{headBytes, numbersAt, endAt};
 ghost use Rattle.sheet.specs.Reading.{decode};
 ghost use Rattle.sheet_judge.specs.Inner.{judgedOf};
 ghost use Rattle.sheet_judge.specs.declared.Judged.the-variants.{Good};
@@ -19,7 +20,7 @@ use answers::Answer;
 use ground::clear;
 use ground::copy_in;
 use ground::wide16;
-use index::insert;
+use index_append::append_row;
 use nodes::clear_nodes;
 use nodes::node_count;
 use register::SLOT_BYTES;
@@ -32,6 +33,7 @@ use sheet::row_in;
 use sheet::two_at;
 use sheet_judge::Judged;
 use sheet_judge::judge;
+use sheet_judge::no_row;
 
 // Sets the number that stands at a place of the sheet, with its length, into slot k: where it ends.
 fn enter_number(reg: &mut [u8], s: &[u8], at: usize, k: usize) -> usize
@@ -64,10 +66,14 @@ fn fill_nodes(nodes: &mut [u16], s: &[u8], from: usize, m: usize)
     ensures { λ _. ⌜ now (nodes .exit) ≡ enterAll (zeroed (now (nodes .entry))) (kitsRead (now (s .entry)) from m) ⌝ }
 {
     clear_nodes(nodes);
+    let mut prev = no_row();
     let mut at = from;
+    let mut n = 1;
     let mut k = 0;
     while k < m {
-        insert(nodes, row_in(s, at), two_at(s, at));
+        let row = row_in(s, at);
+        n = append_row(nodes, prev, row, n, two_at(s, at));
+        prev = row;
         at = record_end(s, at);
         k += 1;
     }

@@ -1,48 +1,37 @@
 -- The sheet of two sound tables: its items one behind the other, how many bytes they take, and what the writer's answers promise.
 use mathlib.Core.Path.{_≡_, refl, ap, sym, _∙_}
+use mathlib.Core.Logic.{⊎-elim, _≢_}
 use mathlib.Core.Bool.{Bool, true, false, cond}
 use mathlib.Core.List.{List, [], _∷_, _++_, map, append-assoc}
-use Prim.Native.Nat.{ℕ, _+_, _≤_, _<_}
+use Prim.Native.Nat.{ℕ, suc, _+_, _*_, _≤_, _<_}
 use native.Mathlib.Omega.{arith}
 use lib.ListN.{length, length-append}
 use Rattle.ground.specs.Laid.{Put}
-use Rattle.ground.specs.Lists.{keep, concat}
+use Rattle.ground.specs.Lists.{keep, from}
 use Rattle.ground.specs.Calls.{done, refused, Promise}
+use Rattle.ground.proofs.Laws.{length-from}
 use Rattle.ground.proofs.Calls.{set-down-full, set-down-done}
 use Rattle.kits.specs.Kits.{before, mostPlace}
 use Rattle.register.specs.Register.{partsOf}
 use Rattle.register.specs.Inner.{Ready}
 use Rattle.register.proofs.Sound.{ready-holds, holds-parts}
-use Rattle.nodes.specs.Nodes.{nodesOf, tagged}
-use Rattle.nodes.specs.Inner.{Shape, walkAll}
+use Rattle.nodes.specs.Nodes.{tag, child, next, size, nodesOf, mostNodes, tagged, isUsed, usedNodes}
+use Rattle.nodes.specs.Inner.{Shape, Live, walk, walkAll}
 use Rattle.nodes.specs.Held.{Kit, putKit, inOrder, kitAt, held}
+use Rattle.nodes.proofs.Beginnings.{used-walk}
 use Rattle.nodes.proofs.Held.{held-is-walk}
+use Rattle.nodes.proofs.Lists.{same-or}
+use Rattle.nodes.proofs.Sorted.{keep-short}
+use Rattle.nodes.proofs.Walk.{ind, walk-some, root-child}
 use Rattle.sheet.specs.Bytes.{two}
-use Rattle.sheet.specs.Sheet.{Contents, contentsOf, mark, version, placeBytes, numberItems, recordItem, recordItems, encode}
+use Rattle.sheet.specs.Sheet.{Contents, contentsOf, mark, version, placeBytes, numberItems, recordItems, encode}
+use Rattle.sheet.specs.Inner.{mostRecord}
 use Rattle.sheet.specs.Calls.{writingOf}
 use Rattle.sheet.proofs.Numbers.{two-length}
-use Rattle.sheet_write.specs.Inner.{headItems, numbersFrom, kitsAt, recordsAt}
+use Rattle.sheet_write.specs.Inner.{headItems, numbersFrom, kitsAt, recordsAt, ownRecord, recordsFrom}
+use Rattle.sheet_write.proofs.Records.{own-none, own-length, row-few, root-first, from-none, from-some}
 
--- putting kits in order changes neither their number nor their bytes
-bytes-of : (w : ℕ) (k : Kit) (ks : List Kit) → length (recordItems w (k ∷ ks)) ≡ length (recordItem w k) + length (recordItems w ks)
-unfolding recordItems concat
-bytes-of w k ks = length-append (recordItem w k) (concat (map (recordItem w) ks))
-
-put-bytes : (w : ℕ) (k : Kit) (ks : List Kit) → length (recordItems w (putKit k ks)) ≡ length (recordItems w (k ∷ ks))
-unfolding putKit
-put-bytes w k [] = refl
-put-bytes w k (x ∷ ks) = go (before (k .row) (x .row)) (put-bytes w k ks)
-  where
-    go : (t : Bool) → length (recordItems w (putKit k ks)) ≡ length (recordItems w (k ∷ ks)) →
-        length (recordItems w (cond t (k ∷ x ∷ ks) (x ∷ putKit k ks))) ≡ length (recordItems w (k ∷ x ∷ ks))
-    go true e = refl
-    go false e = omega (arith, bytes-of w x (putKit k ks), bytes-of w k (x ∷ ks), bytes-of w x ks, bytes-of w k ks)
-
-pub order-bytes : (w : ℕ) (ks : List Kit) → length (recordItems w (inOrder ks)) ≡ length (recordItems w ks)
-unfolding inOrder
-order-bytes w [] = refl
-order-bytes w (k ∷ ks) = put-bytes w k (inOrder ks) ∙ (omega (arith, bytes-of w k (inOrder ks), bytes-of w k ks, order-bytes w ks))
-
+-- putting kits in order does not change their number
 put-more : (k : Kit) (ks : List Kit) → length (putKit k ks) ≡ 1 + length ks
 unfolding putKit
 put-more k [] = refl
@@ -62,13 +51,48 @@ module _ (N : List ℕ) where
   unfolding held kitsAt
   held-many = order-many (map (kitAt N) (keep (tagged N) (nodesOf N)))
 
-  pub held-bytes : length (recordItems placeBytes (held N)) ≡ length (recordsAt N (nodesOf N))
-  unfolding held recordsAt kitsAt
-  held-bytes = order-bytes placeBytes (map (kitAt N) (keep (tagged N) (nodesOf N)))
-
   pub held-records : Shape mostPlace N → recordItems placeBytes (held N) ≡ recordsAt N (walkAll N)
   unfolding recordsAt kitsAt
   held-records S = ap (recordItems placeBytes) (held-is-walk S)
+
+-- no record takes more than 131 bytes, and there are no more than nodes
+module _ (N : List ℕ) (S : Shape mostPlace N) where
+  own-most : (i : ℕ) → Live N i → length (ownRecord N i) ≤ mostRecord
+  own-most i u = ⊎-elim
+      (λ (e : tag N i ≡ 0). omega (arith, ap length (own-none N i e)))
+      (λ (f : tag N i ≢ 0). omega (arith, own-length N S i u (tag N i) refl f, row-few N S i u))
+      (same-or (tag N i) 0)
+
+  walk-most : (i : ℕ) → Live N i → length (recordsFrom N i) ≤ mostRecord * length (walk N i)
+  walk-most =
+      ind S (λ (i : ℕ). length (recordsFrom N i) ≤ mostRecord * length (walk N i))
+      (omega (arith, ap length (from-none N S)))
+      (λ i u h k. omega (
+        arith,
+        h,
+        k,
+        own-most i (λ _. u),
+        ap length (from-some N S i u),
+        length-append (ownRecord N i) (recordsFrom N (child N i) ++ recordsFrom N (next N i)),
+        length-append (recordsFrom N (child N i)) (recordsFrom N (next N i)),
+        ap length (walk-some S i u),
+        length-append (walk N (child N i)) (walk N (next N i)),
+      ))
+
+  walk-few : suc (length (walk N (child N 0))) ≤ mostNodes
+  unfolding walkAll usedNodes nodesOf
+  walk-few = omega (arith, used-walk S, keep-short (isUsed N) (from 0 (size N)), length-from 0 (size N), S .sized .most)
+
+  pub records-most : length (recordsAt N (walkAll N)) ≤ mostRecord * mostNodes
+  records-most =
+      omega (
+        arith,
+        ap length (root-first N),
+        length-append (ownRecord N 0) (recordsFrom N (child N 0)),
+        own-most 0 (λ h. absurd (omega arith)),
+        walk-most (child N 0) (root-child S),
+        walk-few,
+      )
 
 module _ (R : List ℕ) (ready : Ready R) where
   pub parts-numbers : numberItems (partsOf R) ≡ numbersFrom R 0 (length (partsOf R))
@@ -86,9 +110,9 @@ module _ (R N : List ℕ) (ready : Ready R) (n m : ℕ) (parts : n ≡ length (p
       let B = two (length (held N)) ++ recordsAt N (walkAll N) in
       rw (parts, kits, e, f) (ap (λ (x : List ℕ). mark ++ x) (sym (append-assoc (two version) (two (length (partsOf R))) (A ++ B))))
 
-  pub sheet-size : length (encode (contentsOf R N)) ≡ 7 + length (numbersFrom R 0 n) + 2 + length (recordsAt N (nodesOf N))
+  pub sheet-size : Shape mostPlace N → length (encode (contentsOf R N)) ≡ 7 + length (numbersFrom R 0 n) + 2 + length (recordsAt N (walkAll N))
   unfolding encode
-  sheet-size =
+  sheet-size S =
       let P = numberItems (partsOf R) in
       let K = recordItems placeBytes (held N) in
       let k = length (held N) in
@@ -97,7 +121,7 @@ module _ (R N : List ℕ) (ready : Ready R) (n m : ℕ) (parts : n ≡ length (p
       omega (
         arith,
         e,
-        held-bytes N,
+        ap length (held-records N S),
         two-length version,
         two-length p,
         two-length k,

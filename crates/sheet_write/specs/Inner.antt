@@ -1,18 +1,22 @@
 -- Inner: no promise of the house rests on what stands here; inner contracts and proofs speak by it.
 -- What each of the writer's functions sets down.
 use mathlib.Core.Path.{_≡_}
+use mathlib.Core.Bool.{cond}
 use mathlib.Core.List.{List, [], _∷_, _++_, map}
-use Prim.Native.Nat.{ℕ}
-use lib.ListN.{length}
+use Prim.Native.Nat.{ℕ, _+_, _<_}
+use lib.Dec.{eqb}
+use lib.ListN.{length, take}
 use Rattle.ground.specs.Lists.{keep, from}
 use Rattle.register.specs.Register.{numberAt, partsOf}
-use Rattle.nodes.specs.Nodes.{tagged}
+use Rattle.kits.specs.Kits.{mostPlace, listOf}
+use Rattle.nodes.specs.Nodes.{tagged, parent}
 use Rattle.nodes.specs.Nodes as table
-use Rattle.nodes.specs.Inner.{walk}
+use Rattle.nodes.specs.Inner.{Shape, Used, Live, walk}
 use Rattle.nodes.specs.Held.{Kit, kitAt, held}
-use Rattle.sheet.specs.Bytes.{two}
-use Rattle.sheet.specs.Sheet.{placeBytes, mark, version, numberItems, recordItems}
+use Rattle.sheet.specs.Bytes.{inBytes, two}
+use Rattle.sheet.specs.Sheet.{placeBytes, lineBytes, mark, version, numberItems, lineItems, recordItems}
 use Rattle.sheet.specs.declared.Sheet.{Sheet}
+use Rattle.sheet_write.specs.declared.EndLine.{EndLine}
 
 -- the label row of node i
 abbrev pub nodeRow : List ℕ → ℕ → List ℕ
@@ -45,3 +49,78 @@ recordsFrom N i = recordsAt N (walk N i)
 pub record Counted (R N : List ℕ) (s : Sheet) : Type 0 where
   pub parts : s .parts ≡ length (partsOf R)
   pub kits : s .kits ≡ length (held N)
+
+------------------------------------------------------------------------
+-- Lines of a row, unit by unit
+
+abbrev pub endLine : ℕ → ℕ → ℕ → EndLine
+endLine a p q = record { at = a; place = p; quantity = q }
+
+-- what the root's row ends in
+abbrev pub noLine : EndLine
+noLine = endLine 0 0 0
+
+-- the bytes of what a row ends in
+abbrev pub endItem : EndLine → List ℕ
+endItem e = inBytes placeBytes (e .place) ++ (e .quantity ∷ [])
+
+-- a unit more: the same line again, or the next
+unfoldable pub withUnit : EndLine → ℕ → EndLine
+withUnit e x = cond (eqb x (e .place))
+    (record { at = e .at; place = e .place; quantity = e .quantity + 1 })
+    (record { at = e .at + lineBytes placeBytes; place = x; quantity = 1 })
+
+-- the bytes in front of what a row ends in; and that
+pub record Carried : Type 0 where
+  pub front : List ℕ
+  pub end : EndLine
+
+unfoldable pub carry : Carried → ℕ → Carried
+carry s x = record { front = cond (eqb x (s .end .place)) (s .front) (s .front ++ endItem (s .end)); end = withUnit (s .end) x }
+
+unfoldable pub carryAll : Carried → List ℕ → Carried
+carryAll s [] = s
+carryAll s (x ∷ r) = carryAll (carry s x) r
+
+abbrev pub carried : List ℕ → Carried
+carried r = carryAll (record { front = []; end = noLine }) r
+
+abbrev pub endOf : List ℕ → EndLine
+endOf r = carried r .end
+
+-- the lines of 64 units, behind the root's
+abbrev pub rowBytes : ℕ
+rowBytes = 130
+
+-- the lines of node i's row
+abbrev pub rowLines : List ℕ → ℕ → List ℕ
+rowLines N i = lineItems placeBytes (listOf (nodeRow N i))
+
+------------------------------------------------------------------------
+-- The walk
+
+-- Lines that stand from the start on as a row has them, but for what it ends in
+pub record Stands (lines r : List ℕ) : Type 0 where
+  pub wide : length lines ≡ rowBytes
+  pub front : take (endOf r .at) lines ≡ carried r .front
+
+-- What stands in front of a place is as it was
+pub record Kept (n : ℕ) (lines later : List ℕ) : Type 0 where
+  pub wide : length later ≡ length lines
+  pub same : take n later ≡ take n lines
+
+-- What is known at a used node: what the rows of the node above it and of itself end in
+pub record EndsIn (N : List ℕ) (i : ℕ) (above end : EndLine) : Type 0 where
+  pub shape : Shape mostPlace N
+  pub used : Used N i
+  pub above-is : above ≡ endOf (nodeRow N (parent N i))
+  pub end-is : end ≡ endOf (nodeRow N i)
+
+-- And at a link: what the row of the node above ends in, and that its lines stand
+pub record Reached (N : List ℕ) (link : ℕ) (above : EndLine) : Type 0 where
+  pub shape : Shape mostPlace N
+  pub live : Live N link
+  pub above-is : 0 < link → above ≡ endOf (nodeRow N (parent N link))
+
+abbrev pub StandsAbove : List ℕ → ℕ → List ℕ → Type 0
+StandsAbove N link lines = 0 < link → Stands lines (nodeRow N (parent N link))

@@ -3,43 +3,42 @@
 ghost use mathlib.Core.Path.{_≡_};
 ghost use Prim.Native.Nat.{_+_, _*_, _<_, _≤_};
 ghost use lib.ListN.{length, getD};
-ghost use Rattle.ground.specs.Laid.{Put};
+ghost use Rattle.ground.specs.Laid.{laid, Put};
 ghost use Rattle.ground.specs.Calls.{Promise};
 ghost use Rattle.answers.specs.Answers.{reply};
 ghost use Rattle.kits.specs.Kits.{mostUnits, mostPlace};
-ghost use Rattle.kits.specs.Inner.{fixedRow};
-ghost use Rattle.ground.specs.Limits.{mostParts};
+ghost use Rattle.ground.specs.Limits.{mostParts, byteLimit};
 ghost use Rattle.register.specs.Register.{slotBytes, slotCount, numberAt};
 ghost use Rattle.register.specs.Number.{longestNumber};
 ghost use Rattle.register.specs.Inner.{Ready, Short};
-ghost use Rattle.nodes.specs.Nodes.{size, nodesOf, mostNodes};
+ghost use Rattle.nodes.specs.Nodes.{parent, nodesOf, mostNodes};
 ghost use Rattle.nodes.specs.Inner.{walkAll, Live, Shape, Sound};
-ghost use Rattle.sheet.specs.Sheet.{mark, contentsOf, encode};
+ghost use Rattle.sheet.specs.Sheet.{placeBytes, lineBytes, contentsOf, encode};
 ghost use Rattle.sheet.specs.Calls.{writingOf};
 ghost use Rattle.sheet.specs.Inner.{mostItem, mostRecord};
 ghost use Rattle.sheet_write.specs.Inner.{nodeRow, headItems, numbersFrom, Counted, kitsAt, recordsAt, ownRecord, recordsFrom};
+ghost use Rattle.sheet_write.specs.Inner.{noLine, endItem, withUnit, endOf, rowBytes, rowLines, Stands, EndsIn, Kept, endLine, Reached, StandsAbove};
 use answers::Answer;
 use ground::copy_in;
 use ground::wide8;
 use ground::wide16;
 use kits::MOST_UNITS;
-use kits::Row;
 use nodes::child_at;
-use nodes::depth_at;
 use nodes::label_at;
 use nodes::next_at;
 use nodes::node_count;
-use nodes::parent_at;
 use nodes::tag_at;
 use register::SLOT_BYTES;
 use register::count_parts;
-use sheet::LENGTH_BYTES;
+use repeats::LENGTH_BYTES;
+use sheet::LINE_BYTES;
+use sheet::LINES_AT;
 use sheet::Sheet;
 use sheet::TWO_BYTES;
 use sheet::put_kit;
+use sheet::put_line;
 use sheet::put_number;
 use sheet::put_two;
-use sheet::record_size;
 
 // The number in slot k, as the stretch that holds it.
 fn number_in(reg: &[u8], k: usize) -> &[u8]
@@ -52,48 +51,123 @@ fn number_in(reg: &[u8], k: usize) -> &[u8]
     &reg[start..end]
 }
 
-// The row of a node, read up the parent links.
-fn row_at(nodes: &[u16], i: usize) -> Row
-    requires { ⌜ Shape mostPlace (now nodes) ⌝ ∗ ⌜ Live (now nodes) i ⌝ }
-    ensures { λ r. ⌜ r ≡ fixedRow (nodeRow (now (nodes .entry)) i) ⌝ ∗ ⌜ length (nodeRow (now (nodes .entry)) i) ≤ mostUnits ⌝ }
-{
-    let mut row = Row {
-        places: [0; MOST_UNITS],
-        len: depth_at(nodes, i),
-    };
-    let mut node = i;
-    let mut at = row.len;
-    while 0 < at {
-        at -= 1;
-        row.places[at] = label_at(nodes, node);
-        node = parent_at(nodes, node);
-    }
-    row
+// The line that a row ends in: where it stands behind the lines before it, its place and its quantity. In front of every row stands a line of
+// nothing, the root's, so that each row ends in one.
+pub struct EndLine {
+    pub at: usize,
+    pub place: u16,
+    pub quantity: u16,
 }
 
-// The record of a node's own kit, where one ends there.
-fn put_own(out: &mut [u8], nodes: &[u16], i: usize) -> usize
-    requires { ⌜ Shape mostPlace (now nodes) ⌝ ∗ ⌜ i < size (now nodes) ⌝ ∗ ⌜ length (ownRecord (now nodes) i) ≤ length (now out) ⌝ }
-    ensures { λ r. ⌜ Put (now (out .entry)) 0 (ownRecord (now (nodes .entry)) i) r (now (out .exit)) ⌝ }
+impl EndLine {
+    // The root's.
+    pub fn none() -> Self
+        ensures { λ r. ⌜ r ≡ noLine ⌝ }
+    {
+        Self {
+            at: 0,
+            place: 0,
+            quantity: 0,
+        }
+    }
+}
+
+// The lines of a row of 64 units at most, behind the root's.
+const ROW_BYTES: usize = LINE_BYTES * (MOST_UNITS + 1);
+
+// What a row ends in with one unit more: the same line again, or the next.
+fn with_unit(end: EndLine, label: u16) -> EndLine
+    requires { ⌜ (end .at ≤ rowBytes) × (end .quantity ≤ mostUnits) ⌝ }
+    ensures { λ r. ⌜ r ≡ withUnit end label ⌝ }
+{
+    if label == end.place {
+        return EndLine {
+            at: end.at,
+            place: end.place,
+            quantity: end.quantity + 1,
+        };
+    }
+    EndLine {
+        at: end.at + LINE_BYTES,
+        place: label,
+        quantity: 1,
+    }
+}
+
+// Sets a line down where it stands among the lines of its row.
+fn set_line(lines: &mut [u8], line: EndLine)
+    requires { ⌜ (line .at + lineBytes placeBytes ≤ length (now lines)) × (line .quantity < byteLimit) ⌝ }
+    ensures { λ _. ⌜ now (lines .exit) ≡ laid (now (lines .entry)) (line .at) (endItem line) ⌝ }
+{
+    let at = line.at;
+    put_line(&mut lines[at..], line.place, line.quantity);
+}
+
+// The record of a node's own kit, where one ends there, from a place of the output on; `lines` are those of its row.
+fn put_own(out: &mut [u8], at: usize, nodes: &[u16], i: usize, lines: &[u8]) -> usize
+    requires { ⌜ Shape mostPlace (now nodes) ⌝ ∗ ⌜ Live (now nodes) i ⌝ ∗ ⌜ now lines ≡ rowLines (now nodes) i ⌝ ∗
+        ⌜ at + length (ownRecord (now nodes) i) ≤ length (now out) ⌝ }
+    ensures { λ r. ⌜ Put (now (out .entry)) at (ownRecord (now (nodes .entry)) i) r (now (out .exit)) ⌝ }
 {
     let tag = tag_at(nodes, i);
     if tag == 0 {
-        return 0;
+        return at;
     }
-    put_kit(out, tag, row_at(nodes, i))
+    at + put_kit(&mut out[at..], tag, lines)
 }
 
-// The records of the kits on the chain that starts at a link, each node's own before those below it: in listing order.
-fn put_kits(out: &mut [u8], nodes: &[u16], link: usize) -> usize
-    requires { ⌜ Shape mostPlace (now nodes) ⌝ ∗ ⌜ Live (now nodes) link ⌝ ∗ ⌜ length (recordsFrom (now nodes) link) ≤ length (now out) ⌝ }
-    ensures { λ r. ⌜ Put (now (out .entry)) 0 (recordsFrom (now (nodes .entry)) link) r (now (out .exit)) ⌝ }
+// The record of a used node. Of its row only two lines can differ from what stands in `lines`: what the row above ends in, and what it ends in itself.
+fn put_node(
+    out: &mut [u8],
+    at: usize,
+    nodes: &[u16],
+    i: usize,
+    lines: &mut [u8],
+    above: EndLine,
+    end: EndLine,
+) -> usize
+    requires { ⌜ EndsIn (now nodes) i above end ⌝ ∗ ⌜ Stands (now lines) (nodeRow (now nodes) (parent (now nodes) i)) ⌝ ∗
+        ⌜ at + length (ownRecord (now nodes) i) ≤ length (now out) ⌝ }
+    ensures { λ r. ⌜ Put (now (out .entry)) at (ownRecord (now (nodes .entry)) i) r (now (out .exit)) ⌝ ∗
+        ⌜ Stands (now (lines .exit)) (nodeRow (now (nodes .entry)) i) ⌝ ∗ ⌜ Kept (above .at) (now (lines .entry)) (now (lines .exit)) ⌝ }
+{
+    set_line(lines, above);
+    set_line(lines, end);
+    let to = end.at + LINE_BYTES;
+    put_own(out, at, nodes, i, &lines[LINE_BYTES..to])
+}
+
+// The records of the kits on the chain that starts at a link, each node's own before those below it: in listing order. The row of the node above
+// ends in `quantity` of a place, at `line` among its lines; the others stand in `lines`. (Three numbers go down faster than a struct of them.)
+fn put_kits(
+    out: &mut [u8],
+    at: usize,
+    nodes: &[u16],
+    link: usize,
+    lines: &mut [u8],
+    line: usize,
+    place: u16,
+    quantity: u16,
+) -> usize
+    requires { ⌜ Reached (now nodes) link (endLine line place quantity) ⌝ ∗ ⌜ StandsAbove (now nodes) link (now lines) ⌝ ∗
+        ⌜ at + length (recordsFrom (now nodes) link) ≤ length (now out) ⌝ }
+    ensures { λ r. ⌜ Put (now (out .entry)) at (recordsFrom (now (nodes .entry)) link) r (now (out .exit)) ⌝ ∗
+        ⌜ Kept line (now (lines .entry)) (now (lines .exit)) ⌝ }
 {
     if link == 0 {
-        return 0;
+        return at;
     }
-    let own = put_own(out, nodes, link);
-    let below = own + put_kits(&mut out[own..], nodes, child_at(nodes, link));
-    below + put_kits(&mut out[below..], nodes, next_at(nodes, link))
+    let above = EndLine {
+        at: line,
+        place: place,
+        quantity: quantity,
+    };
+    let end = with_unit(above, label_at(nodes, link));
+    let own = put_node(out, at, nodes, link, lines, above, end);
+    let c = child_at(nodes, link);
+    let below = put_kits(out, own, nodes, c, lines, end.at, end.place, end.quantity);
+    let next = next_at(nodes, link);
+    put_kits(out, below, nodes, next, lines, line, place, quantity)
 }
 
 // The numbers of n slots.
@@ -125,30 +199,52 @@ fn numbers_size(reg: &[u8], n: usize) -> usize
     total
 }
 
-// How many bytes a node's own record takes.
-fn own_size(nodes: &[u16], i: usize) -> usize
-    requires { ⌜ Shape mostPlace (now nodes) ⌝ ∗ ⌜ i < size (now nodes) ⌝ }
-    ensures { λ r. ⌜ r ≡ length (ownRecord (now (nodes .entry)) i) ⌝ ∗ ⌜ r ≤ mostRecord ⌝ }
+// How many bytes a node's own record takes: with the root's line, all lines but the last take as many as without it all do.
+fn own_size(nodes: &[u16], i: usize, end: EndLine) -> usize
+    requires { ⌜ Shape mostPlace (now nodes) ⌝ ∗ ⌜ Live (now nodes) i ⌝ ∗ ⌜ end ≡ endOf (nodeRow (now nodes) i) ⌝ }
+    ensures { λ r. ⌜ r ≡ length (ownRecord (now (nodes .entry)) i) ⌝ }
 {
     if tag_at(nodes, i) == 0 {
         return 0;
     }
-    record_size(row_at(nodes, i))
+    LINES_AT + end.at
+}
+
+// How many bytes the records of the kits on the chain that starts at a link, and below it, take.
+fn kits_size(nodes: &[u16], link: usize, line: usize, place: u16, quantity: u16) -> usize
+    requires { ⌜ Reached (now nodes) link (endLine line place quantity) ⌝ ∗ ⌜ length (recordsFrom (now nodes) link) ≤ mostRecord * mostNodes ⌝ }
+    ensures { λ r. ⌜ r ≡ length (recordsFrom (now (nodes .entry)) link) ⌝ }
+{
+    if link == 0 {
+        return 0;
+    }
+    let above = EndLine {
+        at: line,
+        place: place,
+        quantity: quantity,
+    };
+    let end = with_unit(above, label_at(nodes, link));
+    let own = own_size(nodes, link, end);
+    let c = child_at(nodes, link);
+    let below = own + kits_size(nodes, c, end.at, end.place, end.quantity);
+    below + kits_size(nodes, next_at(nodes, link), line, place, quantity)
 }
 
 // How many bytes all kit records take.
 fn records_size(nodes: &[u16]) -> usize
     requires { ⌜ Shape mostPlace (now nodes) ⌝ }
-    ensures { λ r. ⌜ r ≡ length (recordsAt (now (nodes .entry)) (nodesOf (now (nodes .entry)))) ⌝ ∗ ⌜ r ≤ mostRecord * mostNodes ⌝ }
+    ensures { λ r. ⌜ r ≡ length (recordsAt (now (nodes .entry)) (walkAll (now (nodes .entry)))) ⌝ ∗ ⌜ r ≤ mostRecord * mostNodes ⌝ }
 {
-    let n = node_count(nodes);
-    let mut total = 0;
-    let mut i = 0;
-    while i < n {
-        total += own_size(nodes, i);
-        i += 1;
-    }
-    total
+    let none = EndLine::none();
+    let own = own_size(nodes, 0, none);
+    own
+        + kits_size(
+            nodes,
+            child_at(nodes, 0),
+            none.at,
+            none.place,
+            none.quantity,
+        )
 }
 
 // How many kits there are.
@@ -180,13 +276,34 @@ fn put_head(out: &mut [u8], parts: u16) -> usize
     at + put_two(&mut out[at..], parts)
 }
 
-// All kit records: the root's own, and those of all that is below it.
+// All kit records: the root's own, of a row without lines, and those of all that is below it.
+fn put_from_root(out: &mut [u8], nodes: &[u16], lines: &mut [u8]) -> usize
+    requires { ⌜ Shape mostPlace (now nodes) ⌝ ∗ ⌜ length (now lines) ≡ rowBytes ⌝ ∗
+        ⌜ length (recordsAt (now nodes) (walkAll (now nodes))) ≤ length (now out) ⌝ }
+    ensures { λ r. ⌜ Put (now (out .entry)) 0 (recordsAt (now (nodes .entry)) (walkAll (now (nodes .entry)))) r (now (out .exit)) ⌝ }
+{
+    let own = put_own(out, 0, nodes, 0, &lines[0..0]);
+    let c = child_at(nodes, 0);
+    let none = EndLine::none();
+    put_kits(
+        out,
+        own,
+        nodes,
+        c,
+        lines,
+        none.at,
+        none.place,
+        none.quantity,
+    )
+}
+
+// All kit records, with room for the lines of a row.
 fn put_records(out: &mut [u8], nodes: &[u16]) -> usize
     requires { ⌜ Shape mostPlace (now nodes) ⌝ ∗ ⌜ length (recordsAt (now nodes) (walkAll (now nodes))) ≤ length (now out) ⌝ }
     ensures { λ r. ⌜ Put (now (out .entry)) 0 (recordsAt (now (nodes .entry)) (walkAll (now (nodes .entry)))) r (now (out .exit)) ⌝ }
 {
-    let own = put_own(out, nodes, 0);
-    own + put_kits(&mut out[own..], nodes, child_at(nodes, 0))
+    let mut lines = [0; ROW_BYTES];
+    put_from_root(out, nodes, &mut lines)
 }
 
 // All items of a sheet, one behind the other.

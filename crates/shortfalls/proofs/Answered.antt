@@ -4,7 +4,7 @@ use mathlib.Core.Bool.{true}
 use mathlib.Core.List.{List, [], _∷_, map, List·Memᴰ}
 use Prim.Native.Nat.{ℕ, _≤_, _<_, min}
 use native.Mathlib.Omega.{arith}
-use lib.ListN.{length, getD, length-map}
+use lib.ListN.{length, getD}
 use lib.Dec.{leb}
 use Rattle.ground.specs.Calls.{done, refused, Promise, both, setBoth}
 use Rattle.ground.proofs.Calls.{set-both-full, set-both-done}
@@ -14,17 +14,17 @@ use Rattle.kits.proofs.Along.{quantities-count}
 use Rattle.kits.proofs.Good.{good-lines}
 use Rattle.kits.proofs.Inclusion.{rises-none}
 use Rattle.kits.proofs.Units.{units-rise, row-rises, row-upto}
-use Rattle.nodes.specs.Nodes.{tag, size, rowOf}
+use Rattle.nodes.specs.Nodes.{tag, rowOf}
 use Rattle.nodes.specs.Inner.{Shape}
 use Rattle.nodes.specs.Held.{Kit, tagsOf, kitAt, held}
 use Rattle.nodes.proofs.Sorted.{map-same}
 use Rattle.nodes.proofs.Held.{held-good}
 use Rattle.questions.specs.Questions.{fitting, allOf}
 use Rattle.questions.specs.Inner.{foundIn}
-use Rattle.questions.proofs.Found.{found-few, kits-found, tags-at}
+use Rattle.questions.proofs.Found.{kits-found, tags-at}
 use Rattle.questions.proofs.Meaning.{fitting-exactly}
 use Rattle.shortfalls.specs.Shortfalls.{shortOf, isAlmost, almostTags, almostShorts, shortsOf}
-use Rattle.shortfalls.specs.Inner.{shortIn, almost, shortAt, PutBoth, PutNodes}
+use Rattle.shortfalls.specs.Inner.{shortIn, almost, shortAt, PutBoth}
 use Rattle.shortfalls.proofs.Along.{short-along}
 
 rowShort : List ℕ → Kit → ℕ
@@ -75,8 +75,3 @@ module _ {xs ys ts ss : List ℕ} (a : xs ≡ ts) (b : ys ≡ ss) (o z : List �
       Promise (setBoth [] xs ys (both o z)) (both o z) (done need) (both o′ z′)
   all-done i j h k =
       rw (many, k .one .lies, k .two .lies, ← a, ← b, i, j) (set-both-done xs ys (both o z) (omega (arith, many, e)))
-
--- as many kits as there are nodes at most
-pub no-more-than-nodes : (Q : List ℕ) (d : ℕ) {N o o′ z z′ : List ℕ} {n r : ℕ} → Shape mostPlace N →
-    PutNodes Q N o z 0 (foundIn (almost Q d) N) r o′ z′ → n ≡ size N → r ≤ n
-no-more-than-nodes Q d {N} S w e = omega (arith, w .one .behind, length-map (foundIn (almost Q d) N) (tag N), found-few S (almost Q d))

@@ -6,7 +6,7 @@ use Prim.Native.Nat.{ℕ, _≤_}
 use native.Mathlib.Omega.{arith}
 use lib.ListN.{length}
 use borrow.Author.Tests.{not-false}
-use Rattle.ground.specs.Calls.{Reply, done, refused, isRefused, valueOf, decide}
+use Rattle.ground.specs.Calls.{Reply, done, refused, isRefused, decide}
 use Rattle.ground.proofs.Calls.{passed-done, done-passes, first-refuses, first-passes}
 use Rattle.register.specs.Register.{partsOf, registerLength, registerSound}
 use Rattle.register.specs.Inner.{Ready}
@@ -21,6 +21,7 @@ use Rattle.nodes.proofs.Decided.{sound-exactly}
 use Rattle.nodes.proofs.Beginnings.{widen}
 use Rattle.ground.specs.Tables.{tables}
 use Rattle.tables.specs.Lent.{lengths, lentBoth, lentList}
+use Rattle.tables.specs.Inner.{SoundTables}
 
 module _ (R N : List ℕ) where
   pub lengths-register : registerLength R ≡ false → decide (lengths (tables R N)) 0 ≡ refused 1 0
@@ -59,17 +60,12 @@ module _ (R N : List ℕ) where
     unfolding decide lentBoth lengths
     both-good e f = rw (fits, sized, e, f)
 
--- What is known of tables that passed
-pub record Lent (R N : List ℕ) : Type 0 where
-  pub ready : Ready R
-  pub sized : nodesLength N ≡ true
-  pub decided : nodesSound (length (partsOf R)) N ≡ true
-
 pub few-parts : (R : List ℕ) → Ready R → length (partsOf R) ≤ mostPlace
 few-parts R r = omega (arith, few-slots R (r .fits), ready-holds R r .inside)
 
 module _ (R N : List ℕ) where
-  pub both-passed : isRefused (decide (lentBoth (tables R N)) 0) ≡ false → Lent R N
+  -- tables that passed are sound, and sound ones pass
+  pub both-passed : isRefused (decide (lentBoth (tables R N)) 0) ≡ false → SoundTables (tables R N)
   unfolding lentBoth lengths
   both-passed e =
       let a = done-passes _ _ _ _ (passed-done _ e) in
@@ -79,12 +75,18 @@ module _ (R N : List ℕ) where
       record {
         ready = record { fits = not-false _ (a .0); sound = not-false _ (c .0) };
         sized = not-false _ (b .0);
-        decided = not-false _
-            (d .0);
+        sound = sound-exactly (length (partsOf R)) N (not-false _ (b .0)) .0 (not-false _ (d .0));
       }
 
-  pub lent-sound : Lent R N → Sound mostPlace N
-  lent-sound l = widen (few-parts R (l .ready)) (sound-exactly (length (partsOf R)) N (l .sized) .0 (l .decided))
+  pub tested-sound : (r : Reply) (b : Bool) → r ≡ decide (lentBoth (tables R N)) 0 → b ≡ isRefused r → b ≡ false → SoundTables (tables R N)
+  tested-sound r b is t e = both-passed (ap isRefused (sym is) ∙ sym t ∙ e)
+
+  pub sound-passes : SoundTables (tables R N) → decide (lentBoth (tables R N)) 0 ≡ done 0
+  sound-passes s =
+      both-good R N (s .ready .fits) (s .sized) (s .ready .sound) (sound-exactly (length (partsOf R)) N (s .sized) .1 (s .sound))
+
+  pub lent-sound : SoundTables (tables R N) → Sound mostPlace N
+  lent-sound s = widen (few-parts R (s .ready)) (s .sound)
 
 -- A list that passed is good, whatever the number of parts
 pub list-passed : (n : ℕ) (l : List ℕ) → isRefused (decide (listFaults n l) 0) ≡ false → goodList n l ≡ true
@@ -93,30 +95,27 @@ list-passed n l h = not-false _ (sym (checked-good n l) ∙ h)
 pub good-most : (n : ℕ) (l : List ℕ) → n ≤ mostPlace → goodList n l ≡ true → goodList mostPlace l ≡ true
 good-most n l h g = lines-good-list mostPlace l (good-wider h (omega arith) (good-lines n l g))
 
--- What is known of tables and a list that passed
-pub record LentList (R N l : List ℕ) : Type 0 where
-  pub both : Lent R N
-  pub good : goodList (length (partsOf R)) l ≡ true
-
 module _ (R N l : List ℕ) where
   -- a call that the tables refuse is refused so, whatever is asked of the list
   pub list-refused : (r : Reply) → r ≡ decide (lentBoth (tables R N)) 0 → isRefused r ≡ true → r ≡ decide (lentList (tables R N) l) 0
   unfolding lentList
   list-refused r is e = first-refuses r _ _ 0 0 is e
 
-  pub list-asked : (r : Reply) → r ≡ decide (lentBoth (tables R N)) 0 → isRefused r ≡ false →
-      decide (lentList (tables R N) l) 0 ≡ decide (listFaults (length (partsOf R)) l) 0
+  -- of sound tables the list alone is asked
+  pub lines-asked : SoundTables (tables R N) → (r : Reply) → r ≡ decide (listFaults (length (partsOf R)) l) 0 →
+      r ≡ decide (lentList (tables R N) l) 0
   unfolding lentList
-  list-asked r is e = first-passes r _ _ 0 0 is e
+  lines-asked s r is = is ∙ sym (first-passes (done 0) (lentBoth (tables R N)) _ 0 0 (sym (sound-passes R N s)) refl)
 
-  pub lent-passed : isRefused (decide (lentList (tables R N) l) 0) ≡ false → LentList R N l
+  -- a list that passed is good with the most parts
+  pub lines-good : SoundTables (tables R N) → (r : Reply) (b : Bool) → r ≡ decide (listFaults (length (partsOf R)) l) 0 → b ≡ isRefused r →
+      b ≡ false → goodList mostPlace l ≡ true
+  lines-good s r b is t e =
+      good-most (length (partsOf R)) l (few-parts R (s .ready)) (list-passed (length (partsOf R)) l (ap isRefused (sym is) ∙ sym t ∙ e))
+
+  pub lent-passed : isRefused (decide (lentList (tables R N) l) 0) ≡ false → SoundTables (tables R N)
   lent-passed e = go (isRefused (decide (lentBoth (tables R N)) 0)) refl
     where
-      go : (b : Bool) → isRefused (decide (lentBoth (tables R N)) 0) ≡ b → LentList R N l
+      go : (b : Bool) → isRefused (decide (lentBoth (tables R N)) 0) ≡ b → SoundTables (tables R N)
       go true h = absurd (false≢true (sym e ∙ ap isRefused (sym (list-refused _ refl h)) ∙ h))
-      go false h =
-          record { both = both-passed R N h; good = list-passed (length (partsOf R)) l (ap isRefused (sym (list-asked _ refl h)) ∙ e) }
-
-  -- good with so many parts is good with the most
-  pub lent-good : LentList R N l → goodList mostPlace l ≡ true
-  lent-good p = good-most (length (partsOf R)) l (few-parts R (p .both .ready)) (p .good)
+      go false h = both-passed R N h

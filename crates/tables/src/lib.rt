@@ -6,7 +6,7 @@ ghost use Rattle.register.specs.Register.{partsOf};
 ghost use Rattle.register.specs.Inner.{Ready};
 ghost use Rattle.kits.specs.Kits.{listFaults};
 ghost use Rattle.ground.specs.Tables.{tables};
-ghost use Rattle.tables.specs.Lent.{lengths, lentBoth, lentList};
+ghost use Rattle.tables.specs.Lent.{lengths, lentBoth};
 ghost use Rattle.answers.specs.Answers.{reply};
 use answers::Answer;
 use answers::refused;
@@ -49,15 +49,4 @@ pub fn check_lines(reg: &[u8], list: &[u16]) -> Answer
 {
     let parts = register::count_parts(reg) as u16;
     kits::check_list(list, parts)
-}
-
-// The tables, and then the list.
-pub fn check_lent(reg: &[u8], nodes: &[u16], list: &[u16]) -> Answer
-    ensures { λ r. ⌜ reply r ≡ decide (lentList (tables (now (reg .entry)) (now (nodes .entry))) (now (list .entry))) 0 ⌝ }
-{
-    let lent = check_tables(reg, nodes);
-    if refused(lent) {
-        return lent;
-    }
-    check_lines(reg, list)
 }

@@ -1,45 +1,32 @@
--- Refused with what is lent, then with d; otherwise the promise of the walk, behind these refusals.
-use mathlib.Core.Path.{sym, ap, _∙_}
-use Rattle.ground.specs.Calls.{isRefused, both}
-use Rattle.tables.proofs.Lent.{lent-passed, lent-sound, lent-good}
-use Rattle.catalogue.proofs.Answers.{almost-refused, almost-too-far, almost-done}
+-- What the tables are refused for comes first; sound ones are lent on.
+use mathlib.Core.Path.{sym, _∙_}
+use Rattle.tables.proofs.Lent.{tested-sound, list-refused}
+use Rattle.catalogue.proofs.Answers.{almost-refused}
+use Rattle.ground.specs.Calls.{both}
 use borrow.Author.Needs.{needs}
 use Rattle.catalogue.proofs.all_almost.Statement.{statement}
 use Rattle.catalogue.proofs.all_almost.Tie as tie
 
-check-lent-requires : tie.Need-check-lent-requires
-check-lent-requires c κs = search needs
+check-tables-requires : tie.Need-check-tables-requires
+check-tables-requires c κs = search needs
 
 refused-requires : tie.Need-refused-requires
 refused-requires c κs = search needs
 
 returns : tie.Need-returns
 returns c =
+    let at-refused : tie.After-refused = search in
+    let at-check-tables : tie.After-check-tables = search in
+    let then1 : tie.Then1 = search in
     let start : tie.Start = search in
     let a = start .args in
-    almost-refused (a .reg .now) (a .nodes .now) (a .bin .now) _ (c .before .before .check-lent .ensures) (a .d)
-    (both (a .tags .now) (a .shorts .now))
-    (sym (c .before .refused .ensures) ∙ c .if1 .taken)
-
-returns-2 : tie.Need-returns-2
-returns-2 c =
-    let at-check-lent : tie.After-check-lent = search in
-    let start : tie.Start = search in
-    let a = start .args in
-    almost-too-far (a .reg .now) (a .nodes .now) (a .bin .now) _ (at-check-lent .check-lent .ensures) (a .d)
-    (both (a .tags .now) (a .shorts .now))
-    (sym (c .before .before .refused .ensures) ∙ c .before .if1 .left) (c .if2 .taken)
+    let is = at-check-tables .check-tables .ensures in
+    let e = sym (at-refused .refused .ensures) ∙ then1 .if1 .taken in
+    almost-refused (a .reg .now) (a .nodes .now) (a .bin .now) _ (list-refused _ _ _ _ is e) (a .d)
+    (both (a .tags .now) (a .shorts .now)) e
 
 all-almost-requires : tie.Need-all-almost-requires
-all-almost-requires c κs =
-    let else1 : tie.Else1 = search in
-    let at-refused : tie.After-refused = search in
-    let at-check-lent : tie.After-check-lent = search in
-    let start : tie.Start = search in
-    let a = start .args in
-    let p = lent-passed (a .reg .now) (a .nodes .now) (a .bin .now)
-    (ap isRefused (sym (at-check-lent .check-lent .ensures)) ∙ sym (at-refused .refused .ensures) ∙ else1 .if1 .left) in
-    (lent-sound _ _ (p .both), (lent-good _ _ _ p, c .before .before .if2 .left))
+all-almost-requires c κs = search tested-sound
 
 same-length : tie.Need-same-length
 same-length c = search needs
@@ -47,29 +34,17 @@ same-length c = search needs
 same-length-2 : tie.Need-same-length-2
 same-length-2 c = search needs
 
-returns-3 : tie.Need-returns-3
-returns-3 c =
-    let at-all-almost : tie.After-all-almost = search in
-    let else2 : tie.Else2 = search in
-    let else1 : tie.Else1 = search in
-    let at-refused : tie.After-refused = search in
-    let at-check-lent : tie.After-check-lent = search in
-    let start : tie.Start = search in
-    let a = start .args in
-    almost-done (a .reg .now) (a .nodes .now) (a .bin .now) _ (at-check-lent .check-lent .ensures) (a .d)
-    (both (a .tags .now) (a .shorts .now)) _ _
-    (sym (at-refused .refused .ensures) ∙ else1 .if1 .left) (else2 .if2 .left)
-    (at-all-almost .all-almost .ensures)
+returns-2 : tie.Need-returns-2
+returns-2 c = search needs
 
 pub all-almost-spec : {M : Type 1} → statement M
 all-almost-spec =
     tie.close
     (tie.spec
-    check-lent-requires
+    check-tables-requires
     refused-requires
     returns
-    returns-2
     all-almost-requires
     same-length
     same-length-2
-    returns-3)
+    returns-2)

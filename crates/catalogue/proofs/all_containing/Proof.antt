@@ -1,58 +1,43 @@
--- As `all_within`: with the checks passed, the promise of the listing is that of the call.
-use Rattle.tables.proofs.Lent.{lent-passed, lent-sound, lent-good}
-use Rattle.catalogue.proofs.Answers.{all-refused, all-done}
+-- What the tables are refused for comes first; sound ones are lent on.
+use mathlib.Core.Path.{sym, _∙_}
+use Rattle.tables.proofs.Lent.{tested-sound, list-refused}
+use Rattle.catalogue.proofs.Answers.{all-refused}
 use Rattle.questions.specs.Questions.{isContaining}
-use Rattle.ground.specs.Calls.{isRefused}
-use mathlib.Core.Path.{sym, ap, _∙_}
 use borrow.Author.Needs.{needs}
 use Rattle.catalogue.proofs.all_containing.Statement.{statement}
 use Rattle.catalogue.proofs.all_containing.Tie as tie
-use Rattle.catalogue.proofs.all_containing.Reads as reads
-use Rattle.catalogue.proofs.all_containing.Lts as lts
-use Rattle.tables.proofs.check_lent.Reads as check-lent-reads
-use Rattle.answers.proofs.refused.Reads as refused-reads
-use Rattle.questions.proofs.all_containing.Reads as all-containing-reads
 
-check-lent-requires : tie.Need-check-lent-requires
-check-lent-requires c κs = search needs
+check-tables-requires : tie.Need-check-tables-requires
+check-tables-requires c κs = search needs
 
 refused-requires : tie.Need-refused-requires
 refused-requires c κs = search needs
 
 returns : tie.Need-returns
 returns c =
+    let at-refused : tie.After-refused = search in
+    let at-check-tables : tie.After-check-tables = search in
+    let then1 : tie.Then1 = search in
     let start : tie.Start = search in
-    all-refused (start .args .reg .now) (start .args .nodes .now) (start .args .list .now) _
-    (c .before .before .check-lent .ensures) isContaining (start .args .out .now)
-    (sym (c .before .refused .ensures) ∙ c .if1 .taken)
+    let a = start .args in
+    let is = at-check-tables .check-tables .ensures in
+    let e = sym (at-refused .refused .ensures) ∙ then1 .if1 .taken in
+    all-refused (a .reg .now) (a .nodes .now) (a .list .now) _ (list-refused _ _ _ _ is e) isContaining (a .out .now) e
 
 all-containing-requires : tie.Need-all-containing-requires
-all-containing-requires c κs =
-    let at-check-lent : tie.After-check-lent = search in
-    let start : tie.Start = search in
-    let p = lent-passed (start .args .reg .now) (start .args .nodes .now) (start .args .list .now)
-    (ap isRefused (sym (at-check-lent .check-lent .ensures)) ∙ sym (c .before .before .refused .ensures)
-    ∙ c .before .if1 .left) in (lent-sound _ _ (p .both), lent-good _ _ _ p)
+all-containing-requires c κs = search tested-sound
 
 same-length : tie.Need-same-length
 same-length c = search needs
 
 returns-2 : tie.Need-returns-2
-returns-2 c =
-    let at-all-containing : tie.After-all-containing = search in
-    let else1 : tie.Else1 = search in
-    let at-refused : tie.After-refused = search in
-    let at-check-lent : tie.After-check-lent = search in
-    let start : tie.Start = search in
-    all-done (start .args .reg .now) (start .args .nodes .now) (start .args .list .now) _ (at-check-lent .check-lent .ensures)
-    isContaining (start .args .out .now) _ _ (sym (at-refused .refused .ensures) ∙ else1 .if1 .left)
-    (at-all-containing .all-containing .ensures)
+returns-2 c = search needs
 
 pub all-containing-spec : {M : Type 1} → statement M
 all-containing-spec =
     tie.close
     (tie.spec
-    check-lent-requires
+    check-tables-requires
     refused-requires
     returns
     all-containing-requires

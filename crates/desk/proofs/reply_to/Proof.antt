@@ -1,8 +1,9 @@
--- The reply lies inside the output; rooms keep their lengths and the register stays ready for the next line.
+-- The reply lies inside the output; rooms keep their lengths, and the tables stay sound for the next line.
 use Rattle.desk.proofs.Serving.{room-kept}
-use Rattle.desk_lines.proofs.Left.{reply-inside, left-by}
+use Rattle.desk_lines.proofs.Left.{reply-inside, left-by, left-sound}
 use lib.Seq.{length-take-le}
-use mathlib.Core.Path.{sym, _∙_}
+use mathlib.Core.Path.{sym, subst, _∙_}
+use Rattle.tables.specs.Inner.{SoundTables}
 use borrow.Author.Needs.{needs}
 use Rattle.desk.proofs.reply_to.Statement.{statement}
 use Rattle.desk.proofs.reply_to.Tie as tie
@@ -43,14 +44,13 @@ returns : tie.Need-returns
 returns c =
     let at-answer-line : tie.After-answer-line = search in
     let start : tie.Start = search in
-    let k = at-answer-line .answer-line .kept in (
+    let k = at-answer-line .answer-line .kept in
+    let l = at-answer-line .answer-line .ensures .0 .left ∙ left-by _ _ _ _ in (
       record {
-        ready =
-            at-answer-line .answer-line .ensures .1 .0;
+        both = subst SoundTables (sym l) (left-sound _ (start .pre .both) _);
         room = room-kept _ _ _ _ _ _ (start .pre .room) (k .1 .1 .1 .0) (k .1 .1 .1 .1 .0) (k .1 .1 .1 .1 .1 .0);
       },
-      at-answer-line .answer-line .ensures .0 .left
-          ∙ left-by _ _ _ _,
+      l,
     )
 
 pub reply-to-spec : {M : Type 1} → statement M

@@ -6,7 +6,7 @@ use borrow.Author.Needs.{needs}
 use Rattle.ground.specs.Tables.{tables}
 use Rattle.desk.specs.Inner.{AtHand, Keeps}
 use Rattle.desk.proofs.Serving.{SameLengths, same-start, Read, none-read, more-read, nothing-left, line-left}
-use Rattle.desk.proofs.Empty.{begun-ready}
+use Rattle.desk.proofs.Empty.{desk-sound}
 use Rattle.desk.proofs.serve.Statement.{statement}
 use Rattle.desk.proofs.serve.Tie as tie
 
@@ -27,7 +27,7 @@ loop-holds : tie.Need-loop-holds Inv-loop μ-loop
 loop-holds c =
     let start : tie.Start Inv-loop μ-loop = search in (
       start .pre .0,
-      record { ready = begun-ready _ (start .pre .1 .0); room = start .pre .1 .1 },
+      record { both = desk-sound _ (start .pre .1 .0); room = start .pre .1 .1 },
       none-read _ _ (start .pre .1 .0),
       same-start _ _ _ _ _,
       refl,

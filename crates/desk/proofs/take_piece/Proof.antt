@@ -93,7 +93,10 @@ reply-to-requires c κs =
     at-loop .loop .inv .0 .hand
 
 add-at : tie.Need-add-at Inv-loop μ-loop
-add-at c = search needs
+add-at c =
+    let at-end-of : tie.After-end-of Inv-loop μ-loop = search in
+    let start : tie.Start Inv-loop μ-loop = search in
+    omega (arith, at-end-of .end-of .ensures .high)
 
 loop-less : tie.Need-loop-less Inv-loop μ-loop
 loop-less c = search needs

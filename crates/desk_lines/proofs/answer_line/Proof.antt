@@ -1,4 +1,4 @@
--- A line taken apart has just the fields that its letter wants; P alone writes the register, and leaves it ready.
+-- A line taken apart has just the fields that its letter wants.
 use mathlib.Core.Path.{subst}
 use native.Mathlib.Omega.{arith}
 use Rattle.ground.specs.Tables.{tables}
@@ -43,15 +43,14 @@ returns c =
     let start : tie.Start = search in
     let a = start .args in
     let e = subst (ParsedAs (a .line .now) (parsed (a .line .now))) (at-enum-told .enum-told .given .1) (at-parse .parse .ensures) in
-    let z = other-served _ (a .places .now) (a .sheet .now) (tables (a .reg .now) (a .nodes .now)) e (at-put-other .put-other .ensures) in
-    (z .0, (start .pre .0, z .1))
+    other-served _ (a .places .now) (a .sheet .now) (tables (a .reg .now) (a .nodes .now)) e (at-put-other .put-other .ensures)
 
 register-line-requires : tie.Need-register-line-requires
 register-line-requires c κs =
     let then1 : tie.Then1 = search in
     let at-letter : tie.After-letter = search in
     let start : tie.Start = search in
-    (one-number _ _ _ _ (taken-apart at-letter) (then1 .if1 .taken), (start .pre .0, omega (arith, start .pre .1 .written)))
+    (one-number _ _ _ _ (taken-apart at-letter) (then1 .if1 .taken), (start .pre .0 .ready, omega (arith, start .pre .1 .written)))
 
 same-length-2 : tie.Need-same-length-2
 same-length-2 c = search needs
@@ -69,9 +68,8 @@ returns-2 c =
     let at-letter : tie.After-letter = search in
     let start : tie.Start = search in
     let a = start .args in
-    let z = register-served _ (a .places .now) (a .sheet .now) (tables (a .reg .now) (a .nodes .now)) _ _ _ (taken-apart at-letter .is) _
-    (then1 .if1 .taken) (at-register-line .register-line .ensures .0) in
-    (z .0, (at-register-line .register-line .ensures .1, z .1))
+    register-served _ (a .places .now) (a .sheet .now) (tables (a .reg .now) (a .nodes .now)) _ _ _ (taken-apart at-letter .is) _
+    (then1 .if1 .taken) (at-register-line .register-line .ensures)
 
 write-line-requires : tie.Need-write-line-requires
 write-line-requires c κs = search needs
@@ -96,9 +94,8 @@ returns-3 c =
     let else1 : tie.Else1 = search in
     let at-letter : tie.After-letter = search in
     let a = start .args in
-    let z = write-served _ (a .places .now) (a .sheet .now) (tables (a .reg .now) (a .nodes .now)) _ _ _ (taken-apart at-letter .is)
-    (else1 .if1 .left) _ (then2 .if2 .taken) (at-write-line .write-line .ensures .0) (at-write-line .write-line .ensures .1) in
-    (z .0, (start .pre .0, z .1))
+    write-served _ (a .places .now) (a .sheet .now) (tables (a .reg .now) (a .nodes .now)) _ _ _ (taken-apart at-letter .is)
+    (else1 .if1 .left) _ (then2 .if2 .taken) (at-write-line .write-line .ensures .0) (at-write-line .write-line .ensures .1)
 
 ask-line-requires : tie.Need-ask-line-requires
 ask-line-requires c κs =
@@ -127,9 +124,8 @@ returns-4 c =
     let else1 : tie.Else1 = search in
     let at-letter : tie.After-letter = search in
     let a = start .args in
-    let z = ask-served _ (a .places .now) (a .sheet .now) (tables (a .reg .now) (a .nodes .now)) _ _ _ (taken-apart at-letter .is)
-    (else1 .if1 .left) _ _ (else2 .if2 .left) (at-ask-line .ask-line .ensures) in
-    (z .0, (start .pre .0, z .1))
+    ask-served _ (a .places .now) (a .sheet .now) (tables (a .reg .now) (a .nodes .now)) _ _ _ (taken-apart at-letter .is)
+    (else1 .if1 .left) _ _ (else2 .if2 .left) (at-ask-line .ask-line .ensures)
 
 pub answer-line-spec : {M : Type 1} → statement M
 answer-line-spec =

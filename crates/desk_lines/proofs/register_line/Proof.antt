@@ -1,11 +1,8 @@
--- The one field from the position on is the rest of the line; a ready register stays ready, whatever is entered.
-use mathlib.Core.Path.{sym, subst}
-use mathlib.Core.List.{List}
-use Prim.Native.Nat.{ℕ}
-use Rattle.register.specs.Inner.{Ready}
+-- The one field from the position on is the rest of the line.
+use mathlib.Core.Path.{sym}
 use Rattle.answers.specs.Answers.{reply}
 use Rattle.desk_text.specs.Lines.{fieldsFrom}
-use Rattle.desk_lines.proofs.Answering.{ready-kept, register-put}
+use Rattle.desk_lines.proofs.Answering.{register-put}
 use Rattle.desk_lines.proofs.Good.{one-inside, one-field}
 use borrow.Author.Needs.{needs}
 use Rattle.desk_lines.proofs.register_line.Statement.{statement}
@@ -42,11 +39,8 @@ returns c =
     let at-register-in : tie.After-register-in = search in
     let start : tie.Start = search in
     let a = start .args in
-    let p = at-register-in .register-in .ensures in (
-      register-put (fieldsFrom (a .line .now) (a .from)) (a .reg .now) (a .nodes .now) _
-          (reply (at-register-in .register-in .result)) _ (sym (one-field _ _ (start .pre .0))) p (at-put-answer .put-answer .ensures),
-      subst (λ (m : List ℕ). Ready m) (sym (p .lent)) (ready-kept _ (a .reg .now) (start .pre .1 .0)),
-    )
+    register-put (fieldsFrom (a .line .now) (a .from)) (a .reg .now) (a .nodes .now) _ (reply (at-register-in .register-in .result)) _
+    (sym (one-field _ _ (start .pre .0))) (at-register-in .register-in .ensures) (at-put-answer .put-answer .ensures)
 
 pub register-line-spec : {M : Type 1} → statement M
 register-line-spec =

@@ -8,13 +8,15 @@ use Rattle.index_insert.proofs.grow.Statement.{statement}
 use Rattle.index_insert.proofs.grow.Tie as tie
 
 abbrev Inv-loop : tie.InvT-loop
-Inv-loop nodes₀ row at from t p₀ a₀ d₀ nodes p a d = Growing nodes₀ row at from t nodes p a d
+Inv-loop nodes₀ row at from lowest t p₀ a₀ d₀ nodes p a d = Growing nodes₀ row at from t nodes p a d
 
 abbrev μ-loop : tie.MeasureT-loop
-μ-loop nodes₀ row at from t p₀ a₀ d₀ nodes p a d = length row - d
+μ-loop nodes₀ row at from lowest t p₀ a₀ d₀ nodes p a d = length row - d
 
 loop-holds : tie.Need-loop-holds Inv-loop μ-loop
-loop-holds c = grow-start (c .before .before .pre)
+loop-holds c =
+    let start : tie.Start Inv-loop μ-loop = search in
+    grow-start (start .pre .0) (start .pre .1)
 
 free-from-requires : tie.Need-free-from-requires Inv-loop μ-loop
 free-from-requires c κs = tt

@@ -1,77 +1,22 @@
--- The old word of the link is read first and goes into the new node, so what followed in the chain follows it.
-use Prim.Native.Nat.{_+_}
-use mathlib.Core.Path.{_∙_, ap, refl}
-use native.Mathlib.Omega.{arith}
-use Rattle.index_links.proofs.Words.{link-words}
+-- The child that the search finds is the one behind which the node goes.
 use borrow.Author.Needs.{needs}
 use Rattle.index_links.proofs.link.Statement.{statement}
 use Rattle.index_links.proofs.link.Tie as tie
 
-link-to-requires : tie.Need-link-to-requires
-link-to-requires c κs = search needs
+last-below-requires : tie.Need-last-below-requires
+last-below-requires c κs = search needs
 
-mul-rest : tie.Need-mul-rest
-mul-rest c = search needs
-
-slice-read-rest : tie.Need-slice-read-rest
-slice-read-rest c = search needs
-
-depth-at-requires : tie.Need-depth-at-requires
-depth-at-requires c κs = search needs
-
-add-depth : tie.Need-add-depth
-add-depth c = search needs
-
-narrow16-requires : tie.Need-narrow16-requires
-narrow16-requires c κs =
+link-behind-requires : tie.Need-link-behind-requires
+link-behind-requires c κs =
+    let at-last-below : tie.After-last-below = search in
     let start : tie.Start = search in
-    omega (arith, start .pre .reads .inside, start .pre .reads .shape .sized .most)
-
-narrow16-requires-2 : tie.Need-narrow16-requires-2
-narrow16-requires-2 c κs = search needs
-
-put-node-requires : tie.Need-put-node-requires
-put-node-requires c κs = search needs
-
-narrow16-requires-3 : tie.Need-narrow16-requires-3
-narrow16-requires-3 c κs = search needs
-
-mul-nodes : tie.Need-mul-nodes
-mul-nodes c = search needs
-
-slice-write-nodes : tie.Need-slice-write-nodes
-slice-write-nodes c = search needs
+    record { links = start .pre; inside = at-last-below .last-below .ensures .1; last = at-last-below .last-below .ensures .0 }
 
 same-length : tie.Need-same-length
 same-length c = search needs
 
 returns : tie.Need-returns
-returns c =
-    let at-put-node : tie.After-put-node = search in
-    let at-narrow162 : tie.After-narrow162 = search in
-    let at-narrow16 : tie.After-narrow16 = search in
-    let at-depth-at : tie.After-depth-at = search in
-    let at-link-to : tie.After-link-to = search in
-    let start : tie.Start = search in
-    link-words (start .args .nodes .now) (start .args .p) (start .args .l) (start .args .f) (at-link-to .link-to .result)
-    (at-narrow16 .narrow16 .result) _ (at-narrow162 .narrow162 .result) (c .narrow163 .result) _ (at-link-to .link-to .ensures .0)
-    (at-narrow16 .narrow16 .ensures) refl (at-narrow162 .narrow162 .ensures ∙ ap (λ d. d + 1) (at-depth-at .depth-at .ensures .0))
-    (c .narrow163 .ensures) (at-put-node .put-node .ensures)
+returns c = search needs
 
 pub link-spec : {M : Type 1} → statement M
-link-spec =
-    tie.close
-    (tie.spec
-    link-to-requires
-    mul-rest
-    slice-read-rest
-    depth-at-requires
-    add-depth
-    narrow16-requires
-    narrow16-requires-2
-    put-node-requires
-    narrow16-requires-3
-    mul-nodes
-    slice-write-nodes
-    same-length
-    returns)
+link-spec = tie.close (tie.spec last-below-requires link-behind-requires same-length returns)

@@ -15,7 +15,7 @@ said c =
     subst (numbersSay (start .args .s .now) (start .args .n)) (c .before .at .given .1) (at-read-numbers .read-numbers .ensures)
 
 read-numbers-requires : tie.Need-read-numbers-requires
-read-numbers-requires c κs = c .before .pre .0
+read-numbers-requires c κs = (c .before .pre .0, c .before .pre .1)
 
 enum-known-o : tie.Need-enum-known-o
 enum-known-o c = search needs

@@ -1,22 +1,28 @@
 -- The kits passed, then what the rest reads as, are all; the marks, the last row and the node count tell of them.
-use mathlib.Core.Path.{_≡_, sym, _∙_, refl, ap}
-use mathlib.Core.Bool.{true}
-use Prim.Native.Nat.{_+_, _-_, _≤_, _<_}
+use mathlib.Core.Path.{_≡_, sym, _∙_, refl, ap, ap₂}
+use mathlib.Core.Bool.{Bool, true, _&&_, _||_}
+use mathlib.Core.List.{List}
+use Prim.Native.Nat.{ℕ, _+_, _-_, _≤_, _<_}
 use native.Mathlib.Omega.{arith}
-use lib.ListN.{length, drop}
+use lib.ListN.{length, take, drop}
 use borrow.Author.Tests.{not-true, not-false}
-use Rattle.ground.proofs.Laws.{getD-zeros}
-use Rattle.kits.specs.Kits.{units, mostUnits}
-use Rattle.kits.specs.Inner.{unitsIn}
+use Rattle.ground.specs.Lists.{isZero}
+use Rattle.ground.proofs.Laws.{getD-zeros, and-right}
+use Rattle.kits.specs.Kits.{units, mostUnits, before}
+use Rattle.kits.specs.Inner.{unitsIn, fixedRow}
+use Rattle.kits.specs.declared.Row.{Row}
 use Rattle.kits.proofs.Rows.{agreed-right, row-back}
+use Rattle.sheet.specs.Bytes.{fromBytes}
 use Rattle.sheet.specs.Sheet.{placeBytes}
 use Rattle.sheet.specs.Reading.{newKit, recordSize}
-use Rattle.sheet.proofs.Numbers.{bytes-drop}
 use Rattle.sheet.specs.Inner.{recordAt, listAt, WholeAt}
+use Rattle.sheet.proofs.Numbers.{bytes-drop}
+use Rattle.sheet.proofs.Places.{end-moved, lent-list}
+use Rattle.sheet_judge.specs.Inner.{goodLines, newTag}
 use Rattle.sheet_judge.proofs.Front.{one-bad}
-use Rattle.sheet.proofs.Places.{end-moved}
-use Rattle.sheet_judge.proofs.Records.{end-stays, new-short}
+use Rattle.sheet_judge.proofs.Records.{end-stays, new-is, first-bad, second-bad, latest-follows, lines-short}
 use Rattle.sheet_judge.proofs.Walk.{Judging, judging-start, judging-fault, judging-over, judging-good, judging-on}
+use borrow.Author.Needs.{needs}
 use Rattle.sheet_judge.proofs.judge_records.Statement.{statement}
 use Rattle.sheet_judge.proofs.judge_records.Tie as tie
 
@@ -40,54 +46,139 @@ moved c =
     end-moved (start .args .s .now) (at-loop .loop .at) (c .before .record-end .result) (c .before .record-end .ensures)
     (at-loop .loop .inv .4 .inside) (c .if1 .left)
 
-told : (c : tie.After-record-good Inv-loop μ-loop) →
+-- the words that are lent are the record's list
+part : (c : tie.After-list-in Inv-loop μ-loop) →
     let at-loop : tie.At-loop Inv-loop μ-loop = search in
     let start : tie.Start Inv-loop μ-loop = search in
-    c .record-good .result ≡ newKit placeBytes (start .args .sheet .parts) (at-loop .loop .inv .4 .seen)
-    (recordAt (start .args .s .now) (at-loop .loop .at))
-told c =
+    take (c .before .lines-size .result - 0) (drop 0 (c .list-in .result)) ≡ listAt (start .args .s .now) (at-loop .loop .at)
+part c =
+    let else1 : tie.Else1 Inv-loop μ-loop = search in
     let at-loop : tie.At-loop Inv-loop μ-loop = search in
-    c .record-good .ensures (at-loop .loop .inv .4 .seen) (at-loop .loop .inv .4 .tags) (at-loop .loop .inv .4 .latest)
+    let start : tie.Start Inv-loop μ-loop = search in
+    let n = c .before .lines-size .ensures in
+    lent-list (start .args .s .now) (at-loop .loop .at) (moved else1 .0) (n .0) (n .1) (c .list-in .ensures)
 
-good : (c : tie.Else2 Inv-loop μ-loop) →
+-- its tag, as it is read
+tag : (c : tie.After-wide162 Inv-loop μ-loop) →
     let at-loop : tie.At-loop Inv-loop μ-loop = search in
     let start : tie.Start Inv-loop μ-loop = search in
-    true ≡ newKit placeBytes (start .args .sheet .parts) (at-loop .loop .inv .4 .seen)
-    (recordAt (start .args .s .now) (at-loop .loop .at))
-good c = sym (not-false _ (c .if2 .left)) ∙ told (c .before)
+    c .wide162 .result ≡ fromBytes (take 2 (drop (at-loop .loop .at) (start .args .s .now)))
+tag c = c .wide162 .ensures .0 ∙ c .before .two-at .ensures
+
+-- what makes it a new kit
+asked : (c : tie.After-wide162 Inv-loop μ-loop) →
+    let at-loop : tie.At-loop Inv-loop μ-loop = search in
+    let start : tie.Start Inv-loop μ-loop = search in
+    let l = listAt (start .args .s .now) (at-loop .loop .at) in
+    newKit placeBytes (start .args .sheet .parts) (at-loop .loop .inv .4 .seen) (recordAt (start .args .s .now) (at-loop .loop .at))
+    ≡ ((newTag (at-loop .loop .tags) (c .wide162 .result) && goodLines (start .args .sheet .parts) l)
+    && (isZero (at-loop .loop .k) || before (unitsIn (at-loop .loop .prev)) (units l)))
+asked c =
+    let else1 : tie.Else1 Inv-loop μ-loop = search in
+    let at-loop : tie.At-loop Inv-loop μ-loop = search in
+    let start : tie.Start Inv-loop μ-loop = search in
+    new-is (start .args .s .now) (at-loop .loop .at) (moved else1 .0) (start .args .sheet .parts) (at-loop .loop .inv .4 .seen)
+    (at-loop .loop .tags) (c .wide162 .result) (at-loop .loop .inv .4 .tags) (tag c) (c .wide162 .ensures .1) ∙ ap
+    (λ (b : Bool). (newTag (at-loop .loop .tags) (c .wide162 .result)
+    && goodLines (start .args .sheet .parts) (listAt (start .args .s .now) (at-loop .loop .at))) && b)
+    (latest-follows (at-loop .loop .prev) (at-loop .loop .k) (at-loop .loop .inv .4 .seen)
+    (units (listAt (start .args .s .now) (at-loop .loop .at))) (at-loop .loop .inv .4 .latest))
+
+-- its tag and its lines, as they are judged
+alone : (c : tie.After-record-good Inv-loop μ-loop) →
+    let at-wide162 : tie.After-wide162 Inv-loop μ-loop = search in
+    let at-loop : tie.At-loop Inv-loop μ-loop = search in
+    let start : tie.Start Inv-loop μ-loop = search in
+    c .record-good .result ≡ (newTag (at-loop .loop .tags) (at-wide162 .wide162 .result)
+    && goodLines (start .args .sheet .parts) (listAt (start .args .s .now) (at-loop .loop .at)))
+alone c =
+    let at-list-in : tie.After-list-in Inv-loop μ-loop = search in
+    let at-wide162 : tie.After-wide162 Inv-loop μ-loop = search in
+    let at-loop : tie.At-loop Inv-loop μ-loop = search in
+    let start : tie.Start Inv-loop μ-loop = search in
+    c .record-good .ensures ∙ ap
+    (λ (l : List ℕ). newTag (at-loop .loop .tags) (at-wide162 .wide162 .result) && goodLines (start .args .sheet .parts) l)
+    (part at-list-in)
 
 short : (c : tie.Else2 Inv-loop μ-loop) →
     let at-loop : tie.At-loop Inv-loop μ-loop = search in
     let start : tie.Start Inv-loop μ-loop = search in
     length (units (listAt (start .args .s .now) (at-loop .loop .at))) ≤ mostUnits
 short c =
-    let else1 : tie.Else1 Inv-loop μ-loop = search in
+    let at-record-good : tie.After-record-good Inv-loop μ-loop = search in
+    let at-wide162 : tie.After-wide162 Inv-loop μ-loop = search in
     let at-loop : tie.At-loop Inv-loop μ-loop = search in
     let start : tie.Start Inv-loop μ-loop = search in
-    new-short (start .args .s .now) (at-loop .loop .at) (moved else1 .0) (start .args .sheet .parts) (at-loop .loop .inv .4 .seen)
-    (good c)
+    let l = listAt (start .args .s .now) (at-loop .loop .at) in
+    lines-short (start .args .sheet .parts) l
+    (and-right (newTag (at-loop .loop .tags) (at-wide162 .wide162 .result)) (goodLines (start .args .sheet .parts) l)
+    (sym (alone at-record-good) ∙ not-false _ (c .if2 .left)))
 
-fits : (c : tie.After-row-in Inv-loop μ-loop) → c .row-in .result .len ≤ mostUnits
-fits c = rw (c .row-in .ensures) (short (c .before))
-
-long : (c : tie.After-row-in Inv-loop μ-loop) → length (unitsIn (c .row-in .result)) ≡ c .row-in .result .len
-long c =
+row-is : (c : tie.After-row-of Inv-loop μ-loop) →
     let at-loop : tie.At-loop Inv-loop μ-loop = search in
     let start : tie.Start Inv-loop μ-loop = search in
-    rw (c .row-in .ensures) (ap length (row-back (units (listAt (start .args .s .now) (at-loop .loop .at)))))
+    c .row-of .result ≡ fixedRow (units (listAt (start .args .s .now) (at-loop .loop .at)))
+row-is c =
+    let at-list-in : tie.After-list-in Inv-loop μ-loop = search in
+    c .row-of .ensures ∙ ap (λ (l : List ℕ). fixedRow (units l)) (part at-list-in)
+
+fits : (c : tie.After-row-of Inv-loop μ-loop) → c .row-of .result .len ≤ mostUnits
+fits c =
+    let else2 : tie.Else2 Inv-loop μ-loop = search in
+    rw (row-is c) (short else2)
+
+back : (c : tie.After-row-of Inv-loop μ-loop) →
+    let at-loop : tie.At-loop Inv-loop μ-loop = search in
+    let start : tie.Start Inv-loop μ-loop = search in
+    unitsIn (c .row-of .result) ≡ units (listAt (start .args .s .now) (at-loop .loop .at))
+back c =
+    let at-loop : tie.At-loop Inv-loop μ-loop = search in
+    let start : tie.Start Inv-loop μ-loop = search in
+    rw (row-is c) (row-back (units (listAt (start .args .s .now) (at-loop .loop .at))))
+
+long : (c : tie.After-row-of Inv-loop μ-loop) → length (unitsIn (c .row-of .result)) ≡ c .row-of .result .len
+long c = ap length (back c) ∙ sym (ap (λ (r : Row). r .len) (row-is c))
+
+-- its row's place in the order
+told : (c : tie.After-comes-after Inv-loop μ-loop) →
+    let at-loop : tie.At-loop Inv-loop μ-loop = search in
+    let start : tie.Start Inv-loop μ-loop = search in
+    c .comes-after .result ≡ (isZero (at-loop .loop .k)
+    || before (unitsIn (at-loop .loop .prev)) (units (listAt (start .args .s .now) (at-loop .loop .at))))
+told c =
+    let at-row-of : tie.After-row-of Inv-loop μ-loop = search in
+    let at-wide162 : tie.After-wide162 Inv-loop μ-loop = search in
+    let at-loop : tie.At-loop Inv-loop μ-loop = search in
+    c .comes-after .ensures ∙ ap (λ (u : List ℕ). isZero (at-loop .loop .k) || before (unitsIn (at-loop .loop .prev)) u) (back at-row-of)
+
+good : (c : tie.Else3 Inv-loop μ-loop) →
+    let at-loop : tie.At-loop Inv-loop μ-loop = search in
+    let start : tie.Start Inv-loop μ-loop = search in
+    newKit placeBytes (start .args .sheet .parts) (at-loop .loop .inv .4 .seen) (recordAt (start .args .s .now) (at-loop .loop .at)) ≡ true
+good c =
+    let at-comes-after : tie.After-comes-after Inv-loop μ-loop = search in
+    let else2 : tie.Else2 Inv-loop μ-loop = search in
+    let at-record-good : tie.After-record-good Inv-loop μ-loop = search in
+    let at-wide162 : tie.After-wide162 Inv-loop μ-loop = search in
+    asked at-wide162 ∙ ap₂ _&&_ (sym (alone at-record-good) ∙ not-false _ (else2 .if2 .left))
+    (sym (told at-comes-after) ∙ not-false _ (c .if3 .left))
 
 wide16-requires : tie.Need-wide16-requires Inv-loop μ-loop
 wide16-requires c κs = tt
+
+no-row-requires : tie.Need-no-row-requires Inv-loop μ-loop
+no-row-requires c κs = tt
 
 loop-holds : tie.Need-loop-holds Inv-loop μ-loop
 loop-holds c =
     let start : tie.Start Inv-loop μ-loop = search in (
       omega arith,
-      c .wide16 .ensures .1,
-      c .wide16 .ensures .0,
+      c .before .wide16 .ensures .1,
+      c .before .wide16 .ensures .0,
       refl,
       judging-start (start .args .s .now) (start .args .from)
-          (start .args .sheet .parts) (start .args .sheet .kits) _ _ (start .pre) (λ t. getD-zeros 65536 t) refl refl refl,
+          (start .args .sheet .parts) (start .args .sheet .kits) _ _ (start .pre) (λ t. getD-zeros 65536 t) refl (c .no-row .ensures .1)
+          (c .no-row .ensures .0),
     )
 
 record-end-requires : tie.Need-record-end-requires Inv-loop μ-loop
@@ -102,45 +193,6 @@ returns c =
     (at-loop .loop .inv .4 .inside) (newKit placeBytes (start .args .sheet .parts) (at-loop .loop .inv .4 .seen)) (c .if1 .taken))
     ps
 
-record-good-requires : tie.Need-record-good-requires Inv-loop μ-loop
-record-good-requires c κs =
-    let at-loop : tie.At-loop Inv-loop μ-loop = search in
-    (moved (c .before) .0, at-loop .loop .inv .4 .short)
-
-returns-2 : tie.Need-returns-2 Inv-loop μ-loop
-returns-2 c =
-    let at-loop : tie.At-loop Inv-loop μ-loop = search in
-    let start : tie.Start Inv-loop μ-loop = search in
-    λ ps l. judging-fault (at-loop .loop .inv .4) (omega (arith, at-loop .loop .inv .2))
-    (one-bad (recordSize placeBytes) (newKit placeBytes (start .args .sheet .parts) (at-loop .loop .inv .4 .seen))
-    (drop (at-loop .loop .at) (start .args .s .now)) (at-loop .loop .at) (sym (told (c .before)) ∙ not-true _ (c .if2 .taken))) ps
-
-row-in-requires : tie.Need-row-in-requires Inv-loop μ-loop
-row-in-requires c κs =
-    let else1 : tie.Else1 Inv-loop μ-loop = search in
-    (moved else1 .0, short c)
-
-agree-requires : tie.Need-agree-requires Inv-loop μ-loop
-agree-requires c κs =
-    let at-loop : tie.At-loop Inv-loop μ-loop = search in
-    (at-loop .loop .inv .4 .short, rw (c .row-in .ensures) (short (c .before)))
-
-sub-nodes : tie.Need-sub-nodes Inv-loop μ-loop
-sub-nodes c =
-    let at-row-in : tie.After-row-in Inv-loop μ-loop = search in
-    let at-loop : tie.At-loop Inv-loop μ-loop = search in
-    omega (
-      arith,
-      c .before .agree .ensures,
-      agreed-right (unitsIn (at-loop .loop .prev)) (unitsIn (at-row-in .row-in .result)),
-      long at-row-in,
-    )
-
-add-nodes : tie.Need-add-nodes Inv-loop μ-loop
-add-nodes c =
-    let at-loop : tie.At-loop Inv-loop μ-loop = search in
-    omega (arith, at-loop .loop .inv .4 .few, at-loop .loop .inv .1, at-loop .loop .inv .0, fits (c .before .before))
-
 two-at-requires : tie.Need-two-at-requires Inv-loop μ-loop
 two-at-requires c κs =
     let else1 : tie.Else1 Inv-loop μ-loop = search in
@@ -149,10 +201,104 @@ two-at-requires c κs =
 wide16-requires-2 : tie.Need-wide16-requires-2 Inv-loop μ-loop
 wide16-requires-2 c κs = tt
 
+lines-size-requires : tie.Need-lines-size-requires Inv-loop μ-loop
+lines-size-requires c κs =
+    let else1 : tie.Else1 Inv-loop μ-loop = search in
+    omega (arith, moved else1 .0)
+
+list-in-requires : tie.Need-list-in-requires Inv-loop μ-loop
+list-in-requires c κs =
+    let else1 : tie.Else1 Inv-loop μ-loop = search in
+    moved else1 .0
+
+sub-record-good : tie.Need-sub-record-good Inv-loop μ-loop
+sub-record-good c = search needs
+
+part-record-good-start : tie.Need-part-record-good-start Inv-loop μ-loop
+part-record-good-start c = search needs
+
+part-record-good-end : tie.Need-part-record-good-end Inv-loop μ-loop
+part-record-good-end c = search needs
+
+record-good-requires : tie.Need-record-good-requires Inv-loop μ-loop
+record-good-requires c κs =
+    let at-wide162 : tie.After-wide162 Inv-loop μ-loop = search in
+    at-wide162 .wide162 .ensures .1
+
+returns-2 : tie.Need-returns-2 Inv-loop μ-loop
+returns-2 c =
+    let at-wide162 : tie.After-wide162 Inv-loop μ-loop = search in
+    let at-loop : tie.At-loop Inv-loop μ-loop = search in
+    let start : tie.Start Inv-loop μ-loop = search in
+    λ ps l. judging-fault (at-loop .loop .inv .4) (omega (arith, at-loop .loop .inv .2))
+    (one-bad (recordSize placeBytes) (newKit placeBytes (start .args .sheet .parts) (at-loop .loop .inv .4 .seen))
+    (drop (at-loop .loop .at) (start .args .s .now)) (at-loop .loop .at)
+    (first-bad _ _ (asked at-wide162) (sym (alone (c .before)) ∙ not-true _ (c .if2 .taken)))) ps
+
+sub-row-of : tie.Need-sub-row-of Inv-loop μ-loop
+sub-row-of c = search needs
+
+part-row-of-start : tie.Need-part-row-of-start Inv-loop μ-loop
+part-row-of-start c = search needs
+
+part-row-of-end : tie.Need-part-row-of-end Inv-loop μ-loop
+part-row-of-end c = search needs
+
+row-of-requires : tie.Need-row-of-requires Inv-loop μ-loop
+row-of-requires c κs =
+    let else2 : tie.Else2 Inv-loop μ-loop = search in
+    let at-list-in : tie.After-list-in Inv-loop μ-loop = search in
+    rw (part at-list-in) (short else2)
+
+comes-after-requires : tie.Need-comes-after-requires Inv-loop μ-loop
+comes-after-requires c κs =
+    let at-loop : tie.At-loop Inv-loop μ-loop = search in
+    (at-loop .loop .inv .4 .short, fits c)
+
+returns-3 : tie.Need-returns-3 Inv-loop μ-loop
+returns-3 c =
+    let at-wide162 : tie.After-wide162 Inv-loop μ-loop = search in
+    let at-loop : tie.At-loop Inv-loop μ-loop = search in
+    let start : tie.Start Inv-loop μ-loop = search in
+    let l = listAt (start .args .s .now) (at-loop .loop .at) in
+    λ ps many. judging-fault (at-loop .loop .inv .4) (omega (arith, at-loop .loop .inv .2))
+    (one-bad (recordSize placeBytes) (newKit placeBytes (start .args .sheet .parts) (at-loop .loop .inv .4 .seen))
+    (drop (at-loop .loop .at) (start .args .s .now)) (at-loop .loop .at)
+    (second-bad (newTag (at-loop .loop .tags) (at-wide162 .wide162 .result) && goodLines (start .args .sheet .parts) l)
+    (isZero (at-loop .loop .k) || before (unitsIn (at-loop .loop .prev)) (units l)) (asked at-wide162)
+    (sym (told (c .before)) ∙ not-true _ (c .if3 .taken)))) ps
+
+agree-requires : tie.Need-agree-requires Inv-loop μ-loop
+agree-requires c κs =
+    let at-row-of : tie.After-row-of Inv-loop μ-loop = search in
+    let at-wide162 : tie.After-wide162 Inv-loop μ-loop = search in
+    let at-loop : tie.At-loop Inv-loop μ-loop = search in
+    (at-loop .loop .inv .4 .short, fits at-row-of)
+
+sub-nodes : tie.Need-sub-nodes Inv-loop μ-loop
+sub-nodes c =
+    let at-row-of : tie.After-row-of Inv-loop μ-loop = search in
+    let at-wide162 : tie.After-wide162 Inv-loop μ-loop = search in
+    let at-loop : tie.At-loop Inv-loop μ-loop = search in
+    omega (
+      arith,
+      c .before .agree .ensures,
+      agreed-right (unitsIn (at-loop .loop .prev)) (unitsIn (at-row-of .row-of .result)),
+      long at-row-of,
+    )
+
+add-nodes : tie.Need-add-nodes Inv-loop μ-loop
+add-nodes c =
+    let at-row-of : tie.After-row-of Inv-loop μ-loop = search in
+    let at-wide162 : tie.After-wide162 Inv-loop μ-loop = search in
+    let at-loop : tie.At-loop Inv-loop μ-loop = search in
+    omega (arith, at-loop .loop .inv .4 .few, at-loop .loop .inv .1, at-loop .loop .inv .0, fits at-row-of)
+
 array-write-tags : tie.Need-array-write-tags Inv-loop μ-loop
 array-write-tags c =
+    let at-wide162 : tie.After-wide162 Inv-loop μ-loop = search in
     let at-loop : tie.At-loop Inv-loop μ-loop = search in
-    omega (arith, c .wide162 .ensures .1, at-loop .loop .inv .4 .board)
+    omega (arith, at-wide162 .wide162 .ensures .1, at-loop .loop .inv .4 .board)
 
 add-k : tie.Need-add-k Inv-loop μ-loop
 add-k c = omega arith
@@ -163,8 +309,10 @@ loop-less c = omega arith
 loop-again : tie.Need-loop-again Inv-loop μ-loop
 loop-again c =
     let at-agree : tie.After-agree Inv-loop μ-loop = search in
-    let at-row-in : tie.After-row-in Inv-loop μ-loop = search in
+    let else3 : tie.Else3 Inv-loop μ-loop = search in
+    let at-row-of : tie.After-row-of Inv-loop μ-loop = search in
     let else2 : tie.Else2 Inv-loop μ-loop = search in
+    let at-wide162 : tie.After-wide162 Inv-loop μ-loop = search in
     let else1 : tie.Else1 Inv-loop μ-loop = search in
     let at-record-end : tie.After-record-end Inv-loop μ-loop = search in
     let at-loop : tie.At-loop Inv-loop μ-loop = search in (
@@ -173,26 +321,26 @@ loop-again c =
       at-loop .loop .inv .2,
       at-loop .loop .inv .3,
       judging-on (at-loop .loop .inv .4)
-          (omega (arith, at-loop .loop .inv .2)) (moved else1 .0) (sym (good else2)) (at-row-in .row-in .result)
-          (at-row-in .row-in .ensures) (short else2) (c .wide162 .result) (c .wide162 .ensures .0 ∙ c .before .two-at .ensures)
-          (c .wide162 .ensures .1) (at-agree .agree .result) (at-agree .agree .ensures) (at-record-end .record-end .result)
+          (omega (arith, at-loop .loop .inv .2)) (moved else1 .0) (good else3) (at-row-of .row-of .result)
+          (row-is at-row-of) (short else2) (at-wide162 .wide162 .result) (tag at-wide162)
+          (at-wide162 .wide162 .ensures .1) (at-agree .agree .result) (at-agree .agree .ensures) (at-record-end .record-end .result)
           (moved else1 .1),
     )
 
-returns-3 : tie.Need-returns-3 Inv-loop μ-loop
-returns-3 c =
-    let at-loop : tie.At-loop Inv-loop μ-loop = search in
-    λ ps l. judging-over (at-loop .loop .inv .4) (omega (arith, at-loop .loop .inv .2)) (c .if3 .taken) ps
-
 returns-4 : tie.Need-returns-4 Inv-loop μ-loop
 returns-4 c =
+    let at-loop : tie.At-loop Inv-loop μ-loop = search in
+    λ ps l. judging-over (at-loop .loop .inv .4) (omega (arith, at-loop .loop .inv .2)) (c .if4 .taken) ps
+
+returns-5 : tie.Need-returns-5 Inv-loop μ-loop
+returns-5 c =
     let at-loop : tie.At-loop Inv-loop μ-loop = search in
     let at-shared-slice-known : tie.After-shared-slice-known Inv-loop μ-loop = search in
     let start : tie.Start Inv-loop μ-loop = search in
     λ ps l. judging-good (at-loop .loop .inv .4)
     (bytes-drop (start .args .s .now) (start .args .from)
     (λ i. omega (arith, at-shared-slice-known .shared-slice-known .given i))) (omega (arith, at-loop .loop .inv .2))
-    (c .if3 .left) (start .args .sheet) refl refl ps l
+    (c .if4 .left) (start .args .sheet) refl refl ps l
 
 pub judge-records-spec : {M : Type 1} → statement M
 judge-records-spec =
@@ -201,20 +349,31 @@ judge-records-spec =
     Inv-loop
     μ-loop
     wide16-requires
+    no-row-requires
     loop-holds
     record-end-requires
     returns
+    two-at-requires
+    wide16-requires-2
+    lines-size-requires
+    list-in-requires
+    sub-record-good
+    part-record-good-start
+    part-record-good-end
     record-good-requires
     returns-2
-    row-in-requires
+    sub-row-of
+    part-row-of-start
+    part-row-of-end
+    row-of-requires
+    comes-after-requires
+    returns-3
     agree-requires
     sub-nodes
     add-nodes
-    two-at-requires
-    wide16-requires-2
     array-write-tags
     add-k
     loop-less
     loop-again
-    returns-3
-    returns-4)
+    returns-4
+    returns-5)

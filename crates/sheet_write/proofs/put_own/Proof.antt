@@ -1,62 +1,96 @@
--- Without a tag there is no record; a node with a tag is used, so its row can be read.
-use mathlib.Core.Path.{_≡_, sym, _∙_}
+-- Without a tag there is no record; with one it is the tag and the lines of its row.
+use mathlib.Core.Path.{_≡_, ap, sym, _∙_}
 use native.Mathlib.Omega.{arith}
-use Rattle.ground.proofs.Put.{put-none, put-same, put-length}
-use Rattle.kits.specs.Inner.{unitsIn}
-use Rattle.nodes.specs.Inner.{Live}
-use Rattle.nodes.proofs.Held.{tagged-live}
-use Rattle.sheet.specs.Sheet.{placeBytes, recordItem}
-use Rattle.sheet.specs.Inner.{kitOf}
+use Prim.Native.Nat.{_+_, _≤_}
+use lib.ListN.{length}
+use Rattle.ground.proofs.Laid.{room}
+use Rattle.ground.proofs.Put.{put-none, put-same, put-lent}
+use Rattle.nodes.proofs.Rows.{climb, live-inside}
+use Rattle.sheet.specs.Inner.{recordBytes}
 use Rattle.sheet_write.specs.Inner.{ownRecord}
-use Rattle.sheet_write.proofs.Records.{own-none, own-record}
+use Rattle.sheet_write.proofs.Records.{own-none, own-record, row-few, row-long}
+use borrow.Author.Needs.{needs}
 use Rattle.sheet_write.proofs.put_own.Statement.{statement}
 use Rattle.sheet_write.proofs.put_own.Tie as tie
 
-live : (c : tie.Else1) →
-    let start : tie.Start = search in
-    Live (start .args .nodes .now) (start .args .i)
-live c =
-    let start : tie.Start = search in
-    tagged-live (start .pre .0) (start .args .i) (start .pre .1 .0) (omega (arith, c .before .tag-at .ensures, c .if1 .left))
-
-own : (c : tie.After-row-at) →
+own : (c : tie.Else1) →
     let at-tag-at : tie.After-tag-at = search in
     let start : tie.Start = search in
-    recordItem placeBytes (kitOf (unitsIn (c .row-at .result)) (at-tag-at .tag-at .result)) ≡ ownRecord (start .args .nodes .now)
-    (start .args .i)
+    recordBytes (at-tag-at .tag-at .result) (start .args .lines .now) ≡ ownRecord (start .args .nodes .now) (start .args .i)
 own c =
     let at-tag-at : tie.After-tag-at = search in
     let start : tie.Start = search in
-    own-record (start .args .nodes .now) (start .args .i) (c .row-at .result) (at-tag-at .tag-at .result)
-    (at-tag-at .tag-at .ensures) (c .before .before .if1 .left) (c .row-at .ensures .0)
+    ap (recordBytes (at-tag-at .tag-at .result)) (start .pre .1 .1 .0)
+    ∙ own-record (start .args .nodes .now) (start .pre .0) (start .args .i) (start .pre .1 .0) (at-tag-at .tag-at .result)
+    (at-tag-at .tag-at .ensures) (c .if1 .left)
+
+fits : (c : tie.Else1) →
+    let at-tag-at : tie.After-tag-at = search in
+    let start : tie.Start = search in
+    start .args .at + length (recordBytes (at-tag-at .tag-at .result) (start .args .lines .now)) ≤ length (start .args .out .now)
+fits c =
+    let start : tie.Start = search in
+    omega (arith, ap length (own c), start .pre .1 .1 .1)
 
 tag-at-requires : tie.Need-tag-at-requires
-tag-at-requires c κs = c .before .before .pre .1 .0
+tag-at-requires c κs =
+    let start : tie.Start = search in
+    live-inside (climb (start .pre .0)) (start .args .i) (start .pre .1 .0)
 
 returns : tie.Need-returns
 returns c =
     let start : tie.Start = search in
-    put-none (start .args .out .now) 0 ((own-none (start .args .nodes .now) (start .args .i) (sym (c .before .tag-at .ensures) ∙ c .if1 .taken)))
+    put-none (start .args .out .now) (start .args .at)
+    (own-none (start .args .nodes .now) (start .args .i) (sym (c .before .tag-at .ensures) ∙ c .if1 .taken))
 
-row-at-requires : tie.Need-row-at-requires
-row-at-requires c κs =
-    let start : tie.Start = search in
-    (start .pre .0, live (c .before))
+sub-put-kit : tie.Need-sub-put-kit
+sub-put-kit c = search needs
+
+part-put-kit-start : tie.Need-part-put-kit-start
+part-put-kit-start c = search needs
+
+part-put-kit-end : tie.Need-part-put-kit-end
+part-put-kit-end c = search needs
 
 put-kit-requires : tie.Need-put-kit-requires
 put-kit-requires c κs =
-    let start : tie.Start = search in
-    (rw (c .row-at .ensures .0) (c .row-at .ensures .1), rw (own c) (start .pre .1 .1))
+    let else1 : tie.Else1 = search in
+    let at-tag-at : tie.After-tag-at = search in
+    let start : tie.Start = search in (
+      omega (
+        arith,
+        ap length (start .pre .1 .1 .0),
+        row-few (start .args .nodes .now) (start .pre .0) (start .args .i) (start .pre .1 .0),
+        row-long (start .args .nodes .now) (start .pre .0) (start .args .i) (start .pre .1 .0),
+      ),
+      room (start .args .out .now) (start .args .at) (length (recordBytes (at-tag-at .tag-at .result) (start .args .lines .now))) (fits else1),
+    )
+
+add-result : tie.Need-add-result
+add-result c =
+    let at-put-kit : tie.After-put-kit = search in
+    let else1 : tie.Else1 = search in
+    omega (arith, at-put-kit .put-kit .ensures .behind, fits else1)
 
 same-length : tie.Need-same-length
-same-length c = search put-length
+same-length c = search needs
 
 returns-2 : tie.Need-returns-2
 returns-2 c =
-    let at-row-at : tie.After-row-at = search in
-    put-same (c .before .before .put-kit .ensures) (own at-row-at)
+    let at-put-kit : tie.After-put-kit = search in
+    let else1 : tie.Else1 = search in
+    put-same (put-lent (fits else1) (at-put-kit .put-kit .ensures)) (own else1)
 
 pub put-own-spec : {M : Type 1} → statement M
 put-own-spec =
     tie.close
-    (tie.spec tag-at-requires returns row-at-requires put-kit-requires same-length returns-2)
+    (tie.spec
+    tag-at-requires
+    returns
+    sub-put-kit
+    part-put-kit-start
+    part-put-kit-end
+    put-kit-requires
+    add-result
+    same-length
+    returns-2)

@@ -1,4 +1,4 @@
--- Kits by node number and in listing order take as many bytes, so the need is the sheet's length; room decides.
+-- What is counted is what the walk sets down, so the need is the sheet's length; room decides.
 use mathlib.Core.Path.{_≡_, sym, _∙_, refl}
 use Prim.Native.Nat.{_+_}
 use native.Mathlib.Omega.{arith}
@@ -24,7 +24,7 @@ need c =
       c .before .numbers-size .ensures .0,
       sheet-size (start .args .reg .now)
           (start .args .nodes .now) (start .pre .0) (at-count-parts .count-parts .result) (length (held (start .args .nodes .now)))
-          (at-count-parts .count-parts .ensures .0) refl,
+          (at-count-parts .count-parts .ensures .0) refl (start .pre .1 .shape),
     )
 
 count-parts-requires : tie.Need-count-parts-requires

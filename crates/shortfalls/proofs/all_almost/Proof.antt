@@ -2,8 +2,11 @@
 -- refused or set down.
 use mathlib.Core.Path.{refl}
 use native.Mathlib.Omega.{arith}
+use Rattle.nodes.specs.Nodes.{tag}
+use Rattle.questions.proofs.Found.{no-more-than-nodes}
 use Rattle.questions.proofs.Answered.{none-lent}
-use Rattle.shortfalls.proofs.Answered.{tags-are, shorts-are, all-refused, all-done, no-more-than-nodes}
+use Rattle.shortfalls.specs.Inner.{almost}
+use Rattle.shortfalls.proofs.Answered.{tags-are, shorts-are, all-refused, all-done}
 use borrow.Author.Needs.{needs}
 use Rattle.shortfalls.proofs.all_almost.Statement.{statement}
 use Rattle.shortfalls.proofs.all_almost.Tie as tie
@@ -41,7 +44,7 @@ returns c =
     all-done ts ss (a .tags .now) (a .shorts .now) (at-least .least .ensures) (at-set-almost .set-almost .ensures) refl refl
     (omega (
       arith,
-      no-more-than-nodes (at-quantities-of .quantities-of .result) (a .d) S (at-set-almost .set-almost .ensures)
+      no-more-than-nodes S (almost (at-quantities-of .quantities-of .result) (a .d)) (tag (a .nodes .now)) (at-set-almost .set-almost .ensures .one)
           (at-node-count .node-count .ensures),
       then1 .if1 .taken,
     )) (at-set-almost .set-almost .ensures)

@@ -1,0 +1,139 @@
+// The sheet: written in one walk, judged and read in one pass.
+#include "plain.h"
+#include <string.h>
+
+enum { LONGEST_NUMBER = 24, MOST_QUANTITY = 15, HEAD = 7, RECORD_HEAD = 3 };
+
+// ---- writing
+static uint8_t *put_two(uint8_t *out, unsigned x) { out[0] = (uint8_t)(x >> 8); out[1] = (uint8_t)x; return out + 2; }
+
+// The kits below the siblings from one on; their rows go on from these lines.
+static uint8_t *put_below(const Node *t, unsigned at, uint8_t *lines, int n, uint8_t *out)
+{
+    for (; at; at = t[at].next) {
+        bool again = n && lines[2 * n - 2] == t[at].label;
+        int m = again ? n : n + 1;
+        uint8_t was[2] = {lines[2 * m - 2], lines[2 * m - 1]};
+        lines[2 * m - 2] = (uint8_t)t[at].label;
+        lines[2 * m - 1] = again ? (uint8_t)(was[1] + 1) : 1;
+        if (t[at].tag) {
+            out = put_two(out, t[at].tag);
+            *out++ = (uint8_t)m;
+            memcpy(out, lines, (size_t)m * 2);
+            out += m * 2;
+        }
+        out = put_below(t, t[at].child, lines, m, out);
+        lines[2 * m - 2] = was[0];
+        lines[2 * m - 1] = was[1];
+    }
+    return out;
+}
+
+size_t plain_write(const Table *table, uint8_t *start)
+{
+    const Node *t = node_in(table);
+    uint8_t lines[2 * (MOST_UNITS + 2)] = {0}, *out = start;
+    unsigned kits = 0;
+    memcpy(out, "KIT", 3);
+    out = put_two(put_two(out + 3, 1), (unsigned)table->parts);
+    for (int k = 0; k < table->parts; k++) {
+        const uint8_t *s = table->reg + k * SLOT;
+        memcpy(out, s, 1u + s[0]);
+        out += 1 + s[0];
+    }
+    for (int i = 0; i < table->cap; i++) kits += t[i].tag != 0;
+    out = put_two(out, kits);
+    if (t->tag) { out = put_two(out, t->tag); *out++ = 0; }
+    return (size_t)(put_below(t, t->child, lines, 0, out) - start);
+}
+
+// ---- reading: judges and fills in one go; a kit goes on from where it parts from the one before
+typedef struct {
+    const uint8_t *at, *end;
+    unsigned parts;
+    uint8_t seen[65536 / 8]; // tags
+    uint8_t row[MOST_UNITS], prev[MOST_UNITS];
+    int n, len;              // units of the row, and of the one before
+    Node *t;
+    int used, cap;
+    uint16_t path[MOST_UNITS + 1];
+} Reader;
+
+static bool read_numbers(Reader *r, uint8_t *reg, size_t slots)
+{
+    for (unsigned k = 0; k < r->parts; k++) {
+        if (r->at == r->end || *r->at == 0 || *r->at > LONGEST_NUMBER || r->end - r->at < 1 + *r->at) return false;
+        memcpy(reg + k * SLOT, r->at, 1u + *r->at);
+        r->at += 1 + *r->at;
+    }
+    return plain_register(reg, slots * SLOT) && r->end - r->at >= 2;
+}
+
+// The row of the record at hand.
+static bool read_row(Reader *r)
+{
+    int place = 0;
+    r->n = 0;
+    for (int i = 0; i < r->at[2]; i++) {
+        int p = r->at[RECORD_HEAD + 2 * i], q = r->at[RECORD_HEAD + 1 + 2 * i];
+        if (p <= place || p > (int)r->parts || q < 1 || q > MOST_QUANTITY || r->n + q > MOST_UNITS) return false;
+        memset(r->row + r->n, p, (size_t)q);
+        r->n += q;
+        place = p;
+    }
+    return true;
+}
+
+// Enters the row behind the one before it.
+static bool append_row(Reader *r, bool first, unsigned tag)
+{
+    int same = 0;
+    while (same < r->n && same < r->len && r->row[same] == r->prev[same]) same++;
+    if (!first && (same == r->n || (same < r->len && r->row[same] < r->prev[same]))) return false;
+    for (int d = same; d < r->n; d++) {
+        if (r->used == r->cap) return false;
+        Node *x = &r->t[r->used];
+        x->parent = r->path[d];
+        x->label = r->row[d];
+        x->depth = (uint16_t)(d + 1);
+        if (d == same && d < r->len) r->t[r->path[d + 1]].next = (uint16_t)r->used;
+        else r->t[r->path[d]].child = (uint16_t)r->used;
+        r->path[d + 1] = (uint16_t)r->used++;
+    }
+    r->t[r->path[r->n]].tag = (uint16_t)tag;
+    memcpy(r->prev, r->row, sizeof r->prev);
+    r->len = r->n;
+    return true;
+}
+
+static bool read_record(Reader *r, bool first)
+{
+    if (r->end - r->at < RECORD_HEAD || r->end - r->at < RECORD_HEAD + 2 * r->at[2]) return false;
+    unsigned tag = (unsigned)r->at[0] << 8 | r->at[1];
+    if (!tag || r->seen[tag / 8] >> (tag % 8) & 1) return false;
+    r->seen[tag / 8] |= (uint8_t)(1 << (tag % 8));
+    if (!read_row(r) || !append_row(r, first, tag)) return false;
+    r->at += RECORD_HEAD + 2 * r->at[2];
+    return true;
+}
+
+int plain_read(const uint8_t *s, size_t size, uint8_t *reg, size_t slots, Node *t, int cap)
+{
+    Reader r;
+    if (size < HEAD || memcmp(s, "KIT\0\1", 5)) return -1;
+    memset(&r, 0, sizeof r);
+    r.at = s + HEAD;
+    r.end = s + size;
+    r.parts = (unsigned)s[5] << 8 | s[6];
+    r.t = t;
+    r.cap = cap;
+    r.used = 1;
+    if (r.parts > slots) return -1;
+    memset(reg, 0, slots * SLOT);
+    memset(t, 0, (size_t)cap * sizeof *t);
+    if (!read_numbers(&r, reg, slots)) return -1;
+    int kits = r.at[0] << 8 | r.at[1];
+    r.at += 2;
+    for (int k = 0; k < kits; k++) if (!read_record(&r, k == 0)) return -1;
+    return r.at == r.end ? kits : -1;
+}

@@ -1,0 +1,42 @@
+// Tables filled with kits, and lists to ask with. Everything is drawn from one seeded generator.
+#ifndef TABLES_H
+#define TABLES_H
+#include "calls.h"
+
+enum { MOST_KITS = 4096, MOST_NODES = 4096, MOST_PARTS = 255, PLACES = 256, MOST_UNITS = 64, QUERIES = 64, SLOT = 32, WORDS = 6 };
+
+typedef struct { uint16_t parent, child, next, label, depth, tag; } Node;
+
+typedef struct { uint16_t w[2 * PLACES]; int n; } List; // n words: place, quantity, ..
+
+typedef struct {
+    const char *name;
+    uint8_t reg[MOST_PARTS * SLOT];
+    int parts;
+    uint16_t nodes[MOST_NODES * WORDS];
+    int cap, used, kits;
+    List kit[MOST_KITS]; // in listing order
+    uint16_t tag[MOST_KITS];
+    List within[QUERIES], containing[QUERIES];
+    List fresh[QUERIES]; // good kits that are not held
+    int fresh_kits;
+} Table;
+
+// a table, a register and a list as they are lent
+#define NODES_OF(t) (t).nodes, (size_t)(t).cap * WORDS
+#define REG_OF(t) (t).reg, sizeof (t).reg
+#define LENT(l) (l).w, (size_t)(l).n
+
+uint64_t draw(void);              // 64 random bits
+unsigned below(unsigned n);       // 0 .. n-1
+uint16_t new_tag(void);           // one that no kit bears
+void table_start(Table *t, const char *name, int parts, int cap);
+void family(Table *t, const char *name, int sigma, int copies, double density);                     // W1
+void zipf(Table *t, const char *name, int cap, int parts, double s, int most_quantity, int bin);    // W4, W5
+void worst(Table *t, const char *name);                                                             // W7
+void bushy(Table *t, const char *name, int cap); // as many long chains of siblings as there can be
+void long_numbers(Table *t);      // a register of long numbers that agree in all bytes but the last, or the last two
+void with_room(Table *t, int cap); // the same kits in a table with more nodes
+static inline Node *node_of(Table *t) { return (Node *)t->nodes; }
+static inline const Node *node_in(const Table *t) { return (const Node *)t->nodes; }
+#endif

@@ -1,0 +1,5 @@
+-- Laws of entering behind all that is held.
+pub mod Places
+pub mod Steps
+pub mod Fork
+pub mod Upcoming
