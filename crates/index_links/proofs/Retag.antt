@@ -6,7 +6,7 @@ use Prim.Native.Nat.{ℕ, zero, suc, _<_}
 use native.Mathlib.Omega.{arith}
 use lib.ListN.{length, set, length-set}
 use lib.Seq.{getD-set-same, getD-set-other}
-use Rattle.nodes.specs.Nodes.{at, tagWord, parent, child, next, label, depth, tag, size, path, rowOf}
+use Rattle.nodes.specs.Nodes.{at, tagWord, parent, child, next, label, depth, tag, tally, size, path, rowOf}
 use Rattle.nodes.specs.Inner.{Used, Live, Zero, OnChain, here, later, Good, Head, Shape}
 use Rattle.index_links.proofs.Splice.{Pending, zeros}
 
@@ -34,6 +34,9 @@ module _ (N : List ℕ) (p t : ℕ) where
 
   pub retag-depth : (i : ℕ) → depth M i ≡ depth N i
   retag-depth i = getD-set-other N (at p tagWord) (at i 4) t 0 (omega arith)
+
+  pub retag-tally : (i : ℕ) → tally M i ≡ tally N i
+  retag-tally i = getD-set-other N (at p tagWord) (at i 6) t 0 (omega arith)
 
   pub retag-here : p < size N → tag M p ≡ t
   retag-here h = getD-set-same N (at p tagWord) t 0 (omega arith)
@@ -102,7 +105,7 @@ module _ (N : List ℕ) (p t : ℕ) where
         let o : Zero N i = S .free i g (omega (arith, retag-size)) y in
         let n : i ≢ p = λ (e : i ≡ p). omega (arith, l (omega arith) .named, ap (label N) e) in
         zeros M i (retag-parent i ∙ o 0 (omega arith)) (retag-child i ∙ o 1 (omega arith)) (retag-next i ∙ o 2 (omega arith)) z
-        (retag-depth i ∙ o 4 (omega arith)) (retag-other i n ∙ o 5 (omega arith));
+        (retag-depth i ∙ o 4 (omega arith)) (retag-other i n ∙ o 5 (omega arith)) (retag-tally i ∙ o 6 (omega arith));
     good = λ i u. good-too (S .good i (retag-from i u));
     head = λ i h.
         let o : Head N i = S .head i (omega (arith, retag-size)) in

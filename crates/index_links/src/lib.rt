@@ -14,6 +14,7 @@ use nodes::LABEL;
 use nodes::NEXT;
 use nodes::PARENT;
 use nodes::TAG;
+use nodes::TALLY;
 use nodes::WORDS;
 use nodes::child_at;
 use nodes::depth_at;
@@ -93,10 +94,10 @@ fn set_word(nodes: &mut [u16], i: usize, k: usize, w: u16)
     nodes[i * WORDS + k] = w;
 }
 
-// Writes the words of node f: it has no child and no tag.
+// Writes the words of node f: it has no child and no tag, and no kit at or below it yet.
 fn put_node(nodes: &mut [u16], f: usize, parent: u16, next: u16, label: u16, depth: u16)
     requires { ⌜ f < size (now nodes) ⌝ }
-    ensures { λ _. ⌜ now (nodes .exit) ≡ laid (now (nodes .entry)) (at f parentWord) (parent ∷ 0 ∷ next ∷ label ∷ depth ∷ 0 ∷ []) ⌝ }
+    ensures { λ _. ⌜ now (nodes .exit) ≡ laid (now (nodes .entry)) (at f parentWord) (parent ∷ 0 ∷ next ∷ label ∷ depth ∷ 0 ∷ 0 ∷ []) ⌝ }
 {
     set_word(nodes, f, PARENT, parent);
     set_word(nodes, f, CHILD, 0);
@@ -104,6 +105,7 @@ fn put_node(nodes: &mut [u16], f: usize, parent: u16, next: u16, label: u16, dep
     set_word(nodes, f, LABEL, label);
     set_word(nodes, f, DEPTH, depth);
     set_word(nodes, f, TAG, 0);
+    set_word(nodes, f, TALLY, 0);
 }
 
 // Links node f in as p's child with the label l, behind b, the last child with a label below l; b is 0 where there is none.
