@@ -6,7 +6,7 @@
 #include <stdio.h>
 #include <string.h>
 
-enum { REG = 4 * 32, NODES = 8 * 6, OUT = 4, SHEET = 34 };
+enum { NODE_WORDS = 7, REG = 4 * 32, NODES = 8 * NODE_WORDS, OUT = 4, SHEET = 34 };
 
 static const uint8_t PRINTED[SHEET] = {
     0x4B, 0x49, 0x54, 0x00, 0x01, 0x00, 0x03, 0x05, 0x30, 0x30, 0x37, 0x34, 0x31, 0x03, 0x37, 0x34, 0x31,
