@@ -193,7 +193,7 @@ module _ (R N : List ℕ) where
         behind-both : (s : Reply) (T′ : Tables) →
             Promise (plan (given (isZero t) 8
             0 ∷ (listFaults (partCount (tables R N)) l ++ (given (ltb mostUnits (length (units l))) 7 0 ∷ entryRefusals (units l) t N)))
-            (lacks N 0 (units l)) (tables R (enter N 0 (units l) t))) (tables R N) s T′ →
+            (lacks N 0 (units l)) (tables R (enter N (units l) t))) (tables R N) s T′ →
             Promise (inserting l t (tables R N)) (tables R N) s T′
         unfolding inserting
         behind-both s T′ p = promise-behind (lentBoth (tables R N)) _ _ _ (tables R N) s T′ 0 (ap isRefused (sym is) ∙ e) p
@@ -206,7 +206,7 @@ module _ (R N : List ℕ) where
           behind-tag : (s : Reply) (T′ : Tables) →
               Promise (plan (listFaults (partCount (tables R N)) l
               ++ (given (ltb mostUnits (length (units l))) 7 0 ∷ entryRefusals (units l) t N)) (lacks N 0 (units l))
-              (tables R (enter N 0 (units l) t))) (tables R N) s T′ →
+              (tables R (enter N (units l) t))) (tables R N) s T′ →
               Promise (inserting l t (tables R N)) (tables R N) s T′
           behind-tag s T′ p =
               behind-both s T′ (promise-behind (given (isZero t) 8 0 ∷ []) _ _ _ (tables R N) s T′ 0
@@ -219,7 +219,7 @@ module _ (R N : List ℕ) where
             module _ (f : isRefused q ≡ false) where
               behind-list : (s : Reply) (T′ : Tables) →
                   Promise (plan (given (ltb mostUnits (length (units l))) 7 0 ∷ entryRefusals (units l) t N) (lacks N 0 (units l))
-                  (tables R (enter N 0 (units l) t))) (tables R N) s T′ →
+                  (tables R (enter N (units l) t))) (tables R N) s T′ →
                   Promise (inserting l t (tables R N)) (tables R N) s T′
               behind-list s T′ p =
                   behind-tag s T′ (promise-behind (listFaults (partCount (tables R N)) l) _ _ _ (tables R N) s T′ 0

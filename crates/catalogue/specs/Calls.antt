@@ -49,7 +49,7 @@ inserting l t T =
     ++ (given (ltb mostUnits (length (units l))) 7 0
     ∷ entryRefusals (units l) t (T .nodes)))))
     (lacks (T .nodes) 0 (units l))
-    (tables (T .register) (enter (T .nodes) 0 (units l) t))
+    (tables (T .register) (enter (T .nodes) (units l) t))
 
 -- [10.3] "Find a list, delete a list: its tag"
 unfoldable pub finding : List ℕ → Tables → Plan Tables

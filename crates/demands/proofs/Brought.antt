@@ -105,15 +105,15 @@ module _ (l : List ℕ) (t : ℕ) (R N : List ℕ) (m : Contents) (b : Brought (
       (held-rows-differ (b .both .sound .shape)) h in
       omega (arith, I .accepted .fresh, held-tagged (b .both .sound .shape) k h)
 
-  pub now-held : held (enter N 0 (units l) t) ≡ inOrder (kit (units l) t ∷ m .kits)
+  pub now-held : held (enter N (units l) t) ≡ inOrder (kit (units l) t ∷ m .kits)
   unfolding inOrder
   now-held = held-after-insert (b .both .sound) row (I .some-tag) (I .accepted) ∙ ap (putKit (kit (units l) t)) (b .kits)
 
   -- as many nodes are taken as there are beginnings more
-  pub now-begun : length (allBeginnings (held (enter N 0 (units l) t))) ≡ length (allBeginnings (held N)) + lacks N 0 (units l)
+  pub now-begun : length (allBeginnings (held (enter N (units l) t))) ≡ length (allBeginnings (held N)) + lacks N 0 (units l)
   now-begun = insert-growth (b .both .sound) row (I .some-tag) (I .accepted)
 
-  inserted : t < twoLimit → Brought (tables R (enter N 0 (units l) t)) (has (m .parts) (kit (units l) t ∷ m .kits))
+  inserted : t < twoLimit → Brought (tables R (enter N (units l) t)) (has (m .parts) (kit (units l) t ∷ m .kits))
   inserted small-tag = record {
     both = insert-keeps-sound l t (tables R N) v I (b .both);
     parts = b .parts;

@@ -15,7 +15,7 @@ use Rattle.nodes.specs.Sound.{rootGood, parentGood, depthGood, labelGood, fewEq
 use Rattle.nodes.specs.Sound.{endTagged, tagsDiffer, usedOthers, nodesSound}
 use Rattle.nodes.specs.Held.{putKit, inOrder, tagIn, tagsOf, kitAt, held, firstTag, beginnings, addNew, allBeginnings}
 use Rattle.index_links.specs.Links.{hasLabel, childWith, lastBelow, linkTo, link, unlink, nodeOf}
-use Rattle.index_insert.specs.Enter.{lowestFree, enter, lacks, enterAll}
+use Rattle.index_insert.specs.Enter.{lowestFree, enterBelow, enter, lacks, enterAll}
 use Rattle.index_delete.specs.Strike.{prune, strikeAt, strike}
 use Rattle.index.specs.Index.{entryRefusals, missingRefusals}
 use Rattle.questions.specs.Questions.{isWithin, isContaining, fitting, allOf, anyOf}
@@ -38,7 +38,7 @@ unfolding allb anyb every keep distinct concat eqList from firstOr laid decide a
     linesFaults listFaults units count noMore includes before linesFrom listOf caseTest goodList nodesLength nodesOf othersOf zeroWord
     isFree isUsed freeNodes usedNodes tagged path rowOf chain children rootGood parentGood depthGood labelGood fewEqual linksInside
     childGood nextGood onChain endTagged tagsDiffer usedOthers nodesSound putKit inOrder tagIn tagsOf kitAt held firstTag beginnings
-    addNew allBeginnings hasLabel childWith lastBelow linkTo link unlink nodeOf lowestFree enter lacks enterAll prune strikeAt strike
+    addNew allBeginnings hasLabel childWith lastBelow linkTo link unlink nodeOf lowestFree enterBelow enter recount lacks enterAll prune strikeAt strike
     entryRefusals missingRefusals isWithin isContaining fitting allOf anyOf sumOver lacking shortfall shortOf isAlmost shortsOf inBytes
     valueFrom encode numberItem numberItems lineItems recordItem recordItems onward one bytes anyTwo isVersion goodPartCount numberSize
     newNumber numbers recordSize linesRead listIn kitIn hasTag follows newKit unless records front runOf whole decode isFault offset

@@ -14,7 +14,7 @@ use Rattle.nodes.specs.Sound.{rootGood, parentGood, depthGood, labelGood, fewEq
 use Rattle.nodes.specs.Sound.{tagsDiffer, usedOthers, nodesSound}
 use Rattle.nodes.specs.Held.{putKit, inOrder, tagIn, tagsOf, firstTag, kitAt, held}
 use Rattle.index_links.specs.Links.{hasLabel, childWith, nodeOf, lastBelow, linkTo, link, unlink}
-use Rattle.index_insert.specs.Enter.{lowestFree, enter, lacks}
+use Rattle.index_insert.specs.Enter.{lowestFree, enterBelow, enter, lacks}
 use Rattle.index_delete.specs.Strike.{prune, strikeAt, strike}
 use Rattle.index.specs.Index.{entryRefusals, missingRefusals}
 use Rattle.questions.specs.Questions.{isWithin, isContaining, fitting, anyOf, allOf}
@@ -46,7 +46,7 @@ unfolding lineOpened keep distinct concat eqList from firstOr laid decide answer
     lentRegister punctuationAtEnd numberRefusals registering lookingUp lineValue lineFaults linesFaults listFaults units count noMore includes before
     linesFrom listOf nodesLength nodesOf othersOf zeroWord isFree isUsed freeNodes usedNodes tagged path rowOf chain children rootGood
     parentGood depthGood labelGood fewEqual linksInside childGood nextGood onChain endTagged tagsDiffer usedOthers nodesSound putKit inOrder
-    tagIn tagsOf firstTag kitAt held hasLabel childWith nodeOf lastBelow linkTo link unlink lowestFree enter lacks prune strikeAt strike
+    tagIn tagsOf firstTag kitAt held hasLabel childWith nodeOf lastBelow linkTo link unlink lowestFree enterBelow enter recount lacks prune strikeAt strike
     entryRefusals missingRefusals isWithin isContaining fitting anyOf allOf inBytes numberItem numberItems lineItems recordItem recordItems
     encode lengths lentBoth lentList inserting finding deleting anyKit allKits writing digits decimal hexDigit hexOf tagsText replyHead
     replyLine inFrontOf lookedUp emptyDesk called shown sheetText registerLine writeLine withList callOf asked askLine atDesk repliesTo

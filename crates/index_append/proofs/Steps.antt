@@ -16,7 +16,7 @@ use Rattle.nodes.proofs.Rows.{climb, live-inside}
 use Rattle.index_links.specs.Links.{link}
 use Rattle.index_links.specs.Inner.{LinksBehind}
 use Rattle.index_links.proofs.Splice.{Spliced, Placed, new-used, new-row, used-to, used-ne, same-size}
-use Rattle.index_insert.specs.Enter.{lowestFree, enter}
+use Rattle.index_insert.specs.Enter.{lowestFree, enterBelow}
 use Rattle.index_insert.specs.Inner.{Enters}
 use Rattle.index_insert.proofs.Free.{first-skip}
 use Rattle.index_insert.proofs.Entered.{is-placed}
@@ -176,5 +176,5 @@ module _ {N₀ us N : List ℕ} {p₀ d₀ t p b d f : ℕ} (A : Appending N₀ 
         is = subst (λ (x : ℕ). rowOf (set N (at p tagWord) t) x ≡ us) at-end (retag-row N p t p ∙ row-done);
       }
 
-  pub append-end : {M : List ℕ} → M ≡ set N (at p tagWord) t → (M ≡ enter N₀ p₀ (drop d₀ us) t) × LastEntered M f us
+  pub append-end : {M : List ℕ} → M ≡ set N (at p tagWord) t → (M ≡ enterBelow N₀ p₀ (drop d₀ us) t) × LastEntered M f us
   append-end {M} e = (grow-end (A .growing) h e, subst (λ (x : List ℕ). LastEntered x f us) (sym e) tagged-last)

@@ -18,19 +18,19 @@ use Rattle.index_links.specs.Links.{childWith, link}
 use Rattle.index_links.proofs.Chains.{with-found, with-row, with-lone}
 use Rattle.index_links.proofs.Splice.{Pending, Spliced, Room, Placed, placed-shape, placed-tags, placed-pending, new-used, new-row, rows-same, used-to, same-size}
 use Rattle.index_links.proofs.Linked.{placed}
-use Rattle.index_insert.specs.Enter.{lowestFree, enter, lacks}
+use Rattle.index_insert.specs.Enter.{lowestFree, enterBelow, lacks}
 use Rattle.index_insert.specs.Inner.{Enters}
 use Rattle.index_links.proofs.Retag as T
 use Rattle.index_insert.proofs.Free.{Lowest, lowest, one-fewer, as-many}
 
 -- One step of entering: a child that is there, and one that is missing
 module _ (N : List ℕ) (p l : ℕ) (ls : List ℕ) where
-  pub enter-old : (t : ℕ) → childWith N p l ≢ 0 → enter N p (l ∷ ls) t ≡ enter N (childWith N p l) ls t
-  unfolding enter
+  pub enter-old : (t : ℕ) → childWith N p l ≢ 0 → enterBelow N p (l ∷ ls) t ≡ enterBelow N (childWith N p l) ls t
+  unfolding enterBelow
   enter-old t n = rw (ne-eqb (childWith N p l) 0 n)
 
-  pub enter-new : (t : ℕ) → childWith N p l ≡ 0 → enter N p (l ∷ ls) t ≡ enter (link N p l (lowestFree N)) (lowestFree N) ls t
-  unfolding enter
+  pub enter-new : (t : ℕ) → childWith N p l ≡ 0 → enterBelow N p (l ∷ ls) t ≡ enterBelow (link N p l (lowestFree N)) (lowestFree N) ls t
+  unfolding enterBelow
   enter-new t z = rw (eq-eqb (childWith N p l) 0 z)
 
   pub lacks-old : childWith N p l ≢ 0 → lacks N p (l ∷ ls) ≡ lacks N (childWith N p l) ls
@@ -253,25 +253,25 @@ through-new {parts = parts} {N = N} {p = p} {l = l} {ls = ls} E z y =
     }
 
 -- the same, of the definitions
-enter-end : {parts : ℕ} (N : List ℕ) (p t : ℕ) → Enters parts N p [] → Entered parts N (enter N p [] t) p (rowOf N p ++ []) t (lacks N p [])
-unfolding enter lacks
+enter-end : {parts : ℕ} (N : List ℕ) (p t : ℕ) → Enters parts N p [] → Entered parts N (enterBelow N p [] t) p (rowOf N p ++ []) t (lacks N p [])
+unfolding enterBelow lacks
 enter-end N p t E = rw (append-nil (rowOf N p)) (tag-set p t (E .shape) (E .live))
 
 by-old : {parts : ℕ} {N : List ℕ} {p l t : ℕ} {ls : List ℕ} (E : Enters parts N p (l ∷ ls)) (n : childWith N p l ≢ 0) →
-    Entered parts N (enter N (childWith N p l) ls t) (childWith N p l) (rowOf N (childWith N p l) ++ ls) t (lacks N (childWith N p l) ls) →
-    Entered parts N (enter N p (l ∷ ls) t) p (rowOf N p ++ (l ∷ ls)) t (lacks N p (l ∷ ls))
+    Entered parts N (enterBelow N (childWith N p l) ls t) (childWith N p l) (rowOf N (childWith N p l) ++ ls) t (lacks N (childWith N p l) ls) →
+    Entered parts N (enterBelow N p (l ∷ ls) t) p (rowOf N p ++ (l ∷ ls)) t (lacks N p (l ∷ ls))
 by-old {N = N} {p = p} {l = l} {t = t} {ls = ls} E n y = rw (enter-old N p l ls t n, lacks-old N p l ls n) (through-old E n y)
 
 by-new : {parts : ℕ} {N : List ℕ} {p l t : ℕ} {ls : List ℕ} (E : Enters parts N p (l ∷ ls)) (z : childWith N p l ≡ 0) →
-    Entered parts (link N p l (lowestFree N)) (enter (link N p l (lowestFree N)) (lowestFree N) ls t) (lowestFree N)
+    Entered parts (link N p l (lowestFree N)) (enterBelow (link N p l (lowestFree N)) (lowestFree N) ls t) (lowestFree N)
     (rowOf (link N p l (lowestFree N)) (lowestFree N) ++ ls) t (lacks (link N p l (lowestFree N)) (lowestFree N) ls) →
-    Entered parts N (enter N p (l ∷ ls) t) p (rowOf N p ++ (l ∷ ls)) t (lacks N p (l ∷ ls))
+    Entered parts N (enterBelow N p (l ∷ ls) t) p (rowOf N p ++ (l ∷ ls)) t (lacks N p (l ∷ ls))
 by-new {N = N} {p = p} {l = l} {t = t} {ls = ls} E z y =
     rw (enter-new N p l ls t z, lacks-new N p l ls z, ← new-lacks E z) (through-new E z y)
 
 -- The law of entering a row below a node
 pub entered : {parts : ℕ} (ls N : List ℕ) (p t : ℕ) → Enters parts N p ls →
-    Entered parts N (enter N p ls t) p (rowOf N p ++ ls) t (lacks N p ls)
+    Entered parts N (enterBelow N p ls t) p (rowOf N p ++ ls) t (lacks N p ls)
 entered [] N p t E = enter-end N p t E
 entered (l ∷ ls) N p t E = ⊎-elim
     (λ (z : childWith N p l ≡ 0). by-new E z (entered ls (link N p l (lowestFree N)) (lowestFree N) t (new-enters E z)))

@@ -18,7 +18,7 @@ use Rattle.nodes.proofs.Rows.{climb, live-inside}
 use Rattle.index_links.specs.Links.{childWith, link}
 use Rattle.index_links.specs.Inner.{LinksTo}
 use Rattle.index_links.proofs.Splice.{Placed, same-size, new-used}
-use Rattle.index_insert.specs.Enter.{lowestFree, enter}
+use Rattle.index_insert.specs.Enter.{lowestFree, enterBelow}
 use Rattle.index_insert.specs.Inner.{Enters, Grows}
 use Rattle.index_insert.proofs.Free.{first-skip, used-not-free, free-alike}
 use Rattle.index_insert.proofs.Entered.{enter-new, first-lacking, is-lowest, is-placed, new-shape, new-enters, new-lacks}
@@ -26,7 +26,7 @@ use Rattle.index_insert.proofs.Entered.{enter-new, first-lacking, is-lo
 pub record Growing (N₀ us : List ℕ) (p₀ d₀ t : ℕ) (N : List ℕ) (p a d : ℕ) : Type 0 where
   pub same-length : length N ≡ length N₀
   pub grows : Grows N p (drop d us)
-  pub same : enter N p (drop d us) t ≡ enter N₀ p₀ (drop d₀ us) t
+  pub same : enterBelow N p (drop d us) t ≡ enterBelow N₀ p₀ (drop d₀ us) t
   pub start : a ≤ size N
   pub passed : (i : ℕ) → i < a → isFree N i ≡ false
 
@@ -73,7 +73,7 @@ module _ {N₀ us N : List ℕ} {p₀ d₀ t p a d f : ℕ} (G : Growing N₀ us
       rw (k, is-f) (record {
         same-length = P .spliced .same-length ∙ G .same-length;
         grows = record { enters = new-enters E new; missing = new-lacks E new };
-        same = sym (enter-new N p l (drop (d + 1) us) t new) ∙ ap (λ (x : List ℕ). enter N p x t) (sym cut) ∙ G .same;
+        same = sym (enter-new N p l (drop (d + 1) us) t new) ∙ ap (λ (x : List ℕ). enterBelow N p x t) (sym cut) ∙ G .same;
         start = omega (arith, is-lowest E new .inside);
         passed = λ i g. ⊎-elim
             (λ (q : i ≡ lowestFree N). rw q (used-not-free S (lowestFree N) (new-used (E .shape) P .named)))
@@ -84,9 +84,9 @@ module _ {N₀ us N : List ℕ} {p₀ d₀ t p a d f : ℕ} (G : Growing N₀ us
       })
 
 pub grow-end : {N₀ us N M : List ℕ} {p₀ d₀ t p a d : ℕ} → Growing N₀ us p₀ d₀ t N p a d → length us ≤ d → M ≡ set N (at p tagWord) t →
-    M ≡ enter N₀ p₀ (drop d₀ us) t
-unfolding enter
-grow-end {us = us} {N = N} {t = t} {p = p} {d = d} G h e = e ∙ ap (λ (x : List ℕ). enter N p x t) (sym (drop-of-length-le us h)) ∙ G .same
+    M ≡ enterBelow N₀ p₀ (drop d₀ us) t
+unfolding enterBelow
+grow-end {us = us} {N = N} {t = t} {p = p} {d = d} G h e = e ∙ ap (λ (x : List ℕ). enterBelow N p x t) (sym (drop-of-length-le us h)) ∙ G .same
 
 pub grow-home : {N₀ us N : List ℕ} {p₀ d₀ t p a d : ℕ} → Growing N₀ us p₀ d₀ t N p a d → p < size N
 grow-home {p = p} G = live-inside (climb (G .grows .enters .shape)) p (G .grows .enters .live)

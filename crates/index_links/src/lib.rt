@@ -5,9 +5,9 @@ ghost use Prim.Native.Nat.{_<_};
 ghost use lib.ListN.{length, set};
 ghost use Rattle.ground.specs.Limits.{twoLimit};
 ghost use Rattle.ground.specs.Laid.{laid};
-ghost use Rattle.nodes.specs.Nodes.{wordsPerNode, at, parentWord, tagWord, size, children};
-ghost use Rattle.index_links.specs.Links.{childWith, lastBelow, linkTo, link as linked, unlink as unlinked};
-ghost use Rattle.index_links.specs.Inner.{Reads, LinksTo, LinksBehind, Unlinks, wordBehind};
+ghost use Rattle.nodes.specs.Nodes.{wordsPerNode, at, parentWord, tagWord, tallyWord, depth, size, children};
+ghost use Rattle.index_links.specs.Links.{childWith, lastBelow, linkTo, link as linked, unlink as unlinked, oneMore, oneLess, recount};
+ghost use Rattle.index_links.specs.Inner.{Reads, LinksTo, LinksBehind, CountsIn, CountsOut, Unlinks, wordBehind};
 use nodes::CHILD;
 use nodes::DEPTH;
 use nodes::LABEL;
@@ -21,6 +21,7 @@ use nodes::depth_at;
 use nodes::label_at;
 use nodes::next_at;
 use nodes::parent_at;
+use nodes::tally_at;
 
 // A number that a word can hold, as a word.
 fn narrow16(x: usize) -> u16
@@ -148,4 +149,44 @@ pub fn put_tag(nodes: &mut [u16], i: usize, t: u16)
     ensures { λ _. ⌜ now (nodes .exit) ≡ set (now (nodes .entry)) (at i tagWord) t ⌝ }
 {
     set_word(nodes, i, TAG, t);
+}
+
+// Sets how many kits end at node i or below it.
+fn put_tally(nodes: &mut [u16], i: usize, n: u16)
+    requires { ⌜ i < size (now nodes) ⌝ }
+    ensures { λ _. ⌜ now (nodes .exit) ≡ set (now (nodes .entry)) (at i tallyWord) n ⌝ }
+{
+    set_word(nodes, i, TALLY, n);
+}
+
+// One more kit at node i: there, and at every node above it, the root too.
+pub fn count_in(nodes: &mut [u16], i: usize)
+    requires { ⌜ CountsIn (now nodes) i ⌝ }
+    ensures { λ _. ⌜ now (nodes .exit) ≡ recount oneMore (now (nodes .entry)) (depth (now (nodes .entry)) i) i ⌝ }
+{
+    let mut at = i;
+    while at != 0 {
+        let q = parent_at(nodes, at);
+        let n = tally_at(nodes, at);
+        put_tally(nodes, at, n + 1);
+        at = q;
+    }
+    let n = tally_at(nodes, 0);
+    put_tally(nodes, 0, n + 1);
+}
+
+// One kit less at node i: there, and at every node above it, the root too.
+pub fn count_out(nodes: &mut [u16], i: usize)
+    requires { ⌜ CountsOut (now nodes) i ⌝ }
+    ensures { λ _. ⌜ now (nodes .exit) ≡ recount oneLess (now (nodes .entry)) (depth (now (nodes .entry)) i) i ⌝ }
+{
+    let mut at = i;
+    while at != 0 {
+        let q = parent_at(nodes, at);
+        let n = tally_at(nodes, at);
+        put_tally(nodes, at, n - 1);
+        at = q;
+    }
+    let n = tally_at(nodes, 0);
+    put_tally(nodes, 0, n - 1);
 }

@@ -51,7 +51,7 @@ enter-none : (N : List ℕ) → enterAll N [] ≡ N
 unfolding enterAll
 enter-none N = refl
 
-enter-first : (N : List ℕ) (k : Kit) (ks : List Kit) → enterAll N (k ∷ ks) ≡ enterAll (enter N 0 (k .row) (k .tag)) ks
+enter-first : (N : List ℕ) (k : Kit) (ks : List Kit) → enterAll N (k ∷ ks) ≡ enterAll (enter N (k .row) (k .tag)) ks
 unfolding enterAll
 enter-first N k ks = refl
 
@@ -132,11 +132,11 @@ module _ {s : List ℕ} {from m : ℕ} {Z nodes : List ℕ} {prev : Row} {at n k
       may-append =
           ((F .short, may-be), subst (Appendable nodes n (unitsIn prev)) (sym is-row) (upcoming-ready upcoming-now enters))
 
-      pub filling-on : {M : List ℕ} {n′ : ℕ} → M ≡ enter nodes 0 (unitsIn row) t → LastEntered M n′ (unitsIn row) → (r : ℕ) →
+      pub filling-on : {M : List ℕ} {n′ : ℕ} → M ≡ enter nodes (unitsIn row) t → LastEntered M n′ (unitsIn row) → (r : ℕ) →
           r ≡ recordEnd s at → Filling s from m Z M row r n′ (k + 1)
       filling-on {M} {n′} p l r q =
           let u : r ≡ place = q ∙ sym (end-whole s at record-whole) ∙ (omega (arith, size-at s at)) in
-          let v : M ≡ enter nodes 0 (kit .row) (kit .tag) = rw (is-row, is-tag) at p in
+          let v : M ≡ enter nodes (kit .row) (kit .tag) = rw (is-row, is-tag) at p in
           rw u (record {
             rest = rw v (fill-next next);
             goes =
