@@ -117,7 +117,7 @@ exampleSays =
 
 -- tables of three slots and three nodes that hold something else
 abbrev pub otherTables : Tables
-otherTables = tables (replicate 96 7) (replicate 18 7)
+otherTables = tables (replicate 96 7) (replicate 21 7)
 
 -- [14.16] the replies, what b lists, the sheet, and the sheet read back. Proof: proofs/ShortCases, `desk-example`
 abbrev pub DeskExample : Type 0
