@@ -13,9 +13,9 @@ use Rattle.ground.specs.Lists.{anyb, eqList, keep, from}
 use Rattle.ground.proofs.Laws.{same-cases, eqList-true, eqList-refl, or-no}
 use Rattle.kits.specs.Kits.{begins}
 use Rattle.nodes.specs.Nodes.{parent, child, next, label, depth, tally, size, nodesOf, tagged, rowOf, chain, upward, isUnder, tagsUnder}
-use Rattle.nodes.specs.Inner.{Used, Live, Shape, total, walk}
+use Rattle.nodes.specs.Inner.{Used, Live, Shape, Sound, total, walk}
 use Rattle.nodes.specs.Held.{Kit, comesBefore, putKit, inOrder, beginsWith, kitAt, held}
-use Rattle.nodes.proofs.Sorted.{Rising, keep-same, keep-append, keep-mem, mem-keep, mem-from, rising-keep, rising-weaken, rising-from, same-length}
+use Rattle.nodes.proofs.Sorted.{Rising, keep-same, keep-all, keep-append, keep-mem, mem-keep, mem-from, rising-keep, rising-weaken, rising-from, same-length}
 use Rattle.nodes.proofs.Lists.{same-or}
 use Rattle.nodes.proofs.Rows.{climb, used-pos, live-inside, up-ind, row-root, row-step}
 use Rattle.nodes.proofs.Walk.{child-live, walk-none, walk-some, ind}
@@ -238,3 +238,18 @@ module _ {parts : ℕ} {N : List ℕ} (S : Shape parts N) where
 
     pub tallies-local : (i : ℕ) → Live N i → tally N i ≡ one-if (tagged N i) + alongFrom (child N i)
     tallies-local i l = omega (arith, tallies i l, tags-under-walk i l, along-told (child N i) (child-live S i (live-inside (climb S) i l)))
+
+------------------------------------------------------------------------
+-- All kits, by the root: every row goes on from the row of no labels
+
+all-begin : (ks : List Kit) → keep (beginsWith []) ks ≡ ks
+unfolding beginsWith begins
+all-begin ks = keep-all (beginsWith []) ks (λ k m. refl)
+
+-- the root's number is that of all kits held
+pub root-counts : {parts : ℕ} {N : List ℕ} → Sound parts N → tally N 0 ≡ length (held N)
+root-counts {N = N} So =
+    let C = climb (So .shape) in
+    let l : Live N 0 = λ g. absurd (omega arith) in
+    So .tallies 0 l ∙ tags-under-held (So .shape) 0 l ∙ ap (λ (r : List ℕ). length (keep (beginsWith r) (held N))) (row-root C)
+    ∙ ap length (all-begin (held N))
