@@ -142,6 +142,7 @@ module _ {parts : ℕ} {N : List ℕ} {p l f : ℕ} (S : Shape parts N) (R : Roo
       label-f = mine 3 (omega arith);
       depth-f = mine 4 (omega arith);
       tag-f = mine 5 (omega arith);
+      tally-f = mine 6 (omega arith);
       next-live = rw next-f nl;
       next-mine = rw next-f nm;
       next-more = rw next-f nr;
