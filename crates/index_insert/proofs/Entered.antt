@@ -9,14 +9,14 @@ use lib.Seq.{getD-at}
 use borrow.Author.Tests.{eq-eqb, ne-eqb}
 use Rattle.kits.specs.Inner.{GoodRow}
 use Rattle.kits.proofs.Inclusion.{count-append, count-same}
-use Rattle.nodes.specs.Nodes.{at, tagWord, parent, child, label, depth, tag, size, rowOf, freeNodes}
+use Rattle.nodes.specs.Nodes.{at, tagWord, parent, child, label, depth, tag, tally, size, rowOf, freeNodes}
 use Rattle.nodes.specs.Inner.{Used, Live, Shape}
 use Rattle.nodes.proofs.Lists.{zero-or, same-or}
 use Rattle.nodes.proofs.Rows.{climb, used-pos, live-inside, row-length, row-step}
 use Rattle.nodes.proofs.Chain.{ended}
 use Rattle.index_links.specs.Links.{childWith, link}
 use Rattle.index_links.proofs.Chains.{with-found, with-row, with-lone}
-use Rattle.index_links.proofs.Splice.{Pending, Spliced, Room, Placed, placed-shape, placed-tags, placed-pending, new-used, new-row, rows-same, used-to, same-size}
+use Rattle.index_links.proofs.Splice.{Pending, Spliced, Room, Placed, placed-shape, placed-tags, placed-tallies, placed-pending, new-used, new-row, rows-same, used-to, same-size}
 use Rattle.index_links.proofs.Linked.{placed}
 use Rattle.index_insert.specs.Enter.{lowestFree, enterBelow, lacks}
 use Rattle.index_insert.specs.Inner.{Enters}
@@ -159,7 +159,7 @@ module _ {parts : ℕ} {N : List ℕ} {p l : ℕ} {ls : List ℕ} (E : Enters pa
   pub new-lacks : lacks (link N p l (lowestFree N)) (lowestFree N) ls ≡ length ls
   new-lacks = lacks-lone new-shape f (new-used SN is-placed .inside) (is-placed .child-f) ls
 
-  taken-row : rowOf L f ++ ls ≡ rowOf N p ++ (l ∷ ls)
+  pub taken-row : rowOf (link N p l (lowestFree N)) (lowestFree N) ++ ls ≡ rowOf N p ++ (l ∷ ls)
   taken-row = ap (λ (x : List ℕ). x ++ ls) (new-row SN is-placed) ∙ append-assoc (rowOf N p) (l ∷ []) ls
 
   pub new-enters : Enters parts (link N p l (lowestFree N)) (lowestFree N) ls
@@ -179,6 +179,7 @@ pub record Entered (parts : ℕ) (N M : List ℕ) (p : ℕ) (r : List ℕ) (t ne
   pub is : rowOf M end ≡ r
   pub has : tag M end ≡ t
   pub tags : (i : ℕ) → i ≢ end → tag M i ≡ tag N i
+  pub tallies : (i : ℕ) → tally M i ≡ tally N i
   pub used : (i : ℕ) → Used N i → Used M i
   pub rows : (i : ℕ) → Live N i → rowOf M i ≡ rowOf N i
   pub leaf : 0 < t → Pending N p → (i : ℕ) → Used M i → child M i ≡ 0 → 0 < tag M i
@@ -196,6 +197,7 @@ tag-set {N = N} p t S l =
       is = T.retag-row N p t p;
       has = T.retag-here N p t h;
       tags = T.retag-other N p t;
+      tallies = T.retag-tally N p t;
       used = T.retag-to N p t;
       rows = λ i _. T.retag-row N p t i;
       leaf = λ g P i u c. ⊎-elim
@@ -219,6 +221,7 @@ through-old {parts = parts} {N = N} {p = p} {l = l} {ls = ls} E n y =
       is = y .is ∙ old-row E n;
       has = y .has;
       tags = y .tags;
+      tallies = y .tallies;
       used = y .used;
       rows = y .rows;
       leaf = λ g P. y .leaf g (λ i u _ c. ⊎-elim
@@ -246,6 +249,7 @@ through-new {parts = parts} {N = N} {p = p} {l = l} {ls = ls} E z y =
       is = y .is ∙ taken-row E z;
       has = y .has;
       tags = λ i n. y .tags i n ∙ placed-tags S P i;
+      tallies = λ i. y .tallies i ∙ placed-tallies S P i;
       used = λ i u. y .used i (used-to X i u);
       rows = λ i v. y .rows i (λ g. used-to X i (v g)) ∙ rows-same X (climb S) i v;
       leaf = λ g A. y .leaf g (placed-pending S P A);
