@@ -2,26 +2,29 @@
 use mathlib.Core.Path.{_≡_, refl, sym, ap, subst, _∙_}
 use mathlib.Core.Logic.{_≢_, ⊎-elim}
 use mathlib.Core.Bool.{Bool, true, false, _&&_, _||_, cond, or-false}
-use mathlib.Core.List.{List, [], _∷_, _++_, map, List·Memᴰ, List·Memᴰ·head, List·Memᴰ·tail, List·Memᴰ·cases-cons}
-use Prim.Native.Nat.{ℕ, zero, suc, _+_, _<_}
+use mathlib.Core.List.{List, [], _∷_, _++_, map, List·Memᴰ, List·Memᴰ·head, List·Memᴰ·tail, List·Memᴰ·not-nil, List·Memᴰ·cases-cons}
+use Prim.Native.Nat.{ℕ, zero, suc, _+_, _≤_, _<_}
 use native.Mathlib.Numerals.{add-one}
 use native.Mathlib.Omega.{arith}
-use lib.ListN.{length, length-append}
+use lib.ListN.{length, take, drop, length-append, List·getD-eq-default}
+use lib.Seq.{take-append-le, take-all}
 use lib.Dec.{eqb}
 use borrow.Author.Tests.{eq-eqb, ne-eqb, eqb-true}
 use Rattle.ground.specs.Lists.{anyb, eqList, keep, from}
-use Rattle.ground.proofs.Laws.{same-cases, eqList-true, eqList-refl, or-no}
-use Rattle.kits.specs.Kits.{begins}
-use Rattle.nodes.specs.Nodes.{parent, child, next, label, depth, tally, size, nodesOf, tagged, rowOf, chain, upward, isUnder, tagsUnder}
+use Rattle.ground.proofs.Laws.{by-cond, same-cases, eqList-true, eqList-refl, or-no, length-from, le-or}
+use Rattle.kits.specs.Kits.{begins, mostUnits}
+use Rattle.kits.proofs.Order.{begins-front}
+use Rattle.nodes.specs.Nodes.{mostNodes, tallyWord, at, parent, child, next, label, depth, tag, tally, size, nodesOf, tagged, rowOf, chain}
+use Rattle.nodes.specs.Nodes.{upward, isUnder, tagsUnder}
 use Rattle.nodes.specs.Inner.{Used, Live, Shape, Sound, total, walk}
-use Rattle.nodes.specs.Held.{Kit, comesBefore, putKit, inOrder, beginsWith, kitAt, held}
-use Rattle.nodes.proofs.Sorted.{Rising, keep-same, keep-all, keep-append, keep-mem, mem-keep, mem-from, rising-keep, rising-weaken, rising-from, same-length}
-use Rattle.nodes.proofs.Lists.{same-or}
-use Rattle.nodes.proofs.Rows.{climb, used-pos, live-inside, up-ind, row-root, row-step}
+use Rattle.nodes.specs.Held.{Kit, comesBefore, putKit, inOrder, dropKit, beginsWith, countBeginning, kitAt, held}
+use Rattle.nodes.proofs.Sorted.{Rising, keep-short, keep-all, no-members, keep-same, keep-append, keep-mem, mem-keep, mem-from, rising-keep, rising-weaken, rising-from, same-length}
+use Rattle.nodes.proofs.Lists.{never, zero-or, same-or}
+use Rattle.nodes.proofs.Rows.{climb, used-pos, live-inside, up-ind, row-root, row-step, row-length, row-good, Ancestor, ancestor}
 use Rattle.nodes.proofs.Walk.{child-live, walk-none, walk-some, ind}
 use Rattle.nodes.proofs.Chain.{siblings, chain-step}
 use Rattle.nodes.proofs.Order.{walk-goes-on, below-once, below-live, walk-chain, inherit, one-node}
-use Rattle.nodes.proofs.Held.{tagged-lives}
+use Rattle.nodes.proofs.Held.{Holds, kit, tagged-lives, held-holds, holds-held}
 
 ------------------------------------------------------------------------
 -- Under a node, by rows
@@ -240,16 +243,128 @@ module _ {parts : ℕ} {N : List ℕ} (S : Shape parts N) where
     tallies-local i l = omega (arith, tallies i l, tags-under-walk i l, along-told (child N i) (child-live S i (live-inside (climb S) i l)))
 
 ------------------------------------------------------------------------
--- All kits, by the root: every row goes on from the row of no labels
+-- How many kits of a list begin with a row
 
-all-begin : (ks : List Kit) → keep (beginsWith []) ks ≡ ks
-unfolding beginsWith begins
-all-begin ks = keep-all (beginsWith []) ks (λ k m. refl)
+pub count-put : (r : List ℕ) (k : Kit) (ks : List Kit) → countBeginning r (putKit k ks) ≡ one-if (begins r (k .row)) + countBeginning r ks
+unfolding countBeginning beginsWith
+count-put r k ks = keep-put (beginsWith r) k ks ∙ keep-one (beginsWith r) k ks
 
--- the root's number is that of all kits held
-pub root-counts : {parts : ℕ} {N : List ℕ} → Sound parts N → tally N 0 ≡ length (held N)
-root-counts {N = N} So =
-    let C = climb (So .shape) in
-    let l : Live N 0 = λ g. absurd (omega arith) in
-    So .tallies 0 l ∙ tags-under-held (So .shape) 0 l ∙ ap (λ (r : List ℕ). length (keep (beginsWith r) (held N))) (row-root C)
-    ∙ ap length (all-begin (held N))
+-- the kit with the row r, which is there, taken out
+pub count-drop : (s r : List ℕ) (k : Kit) (ks : List Kit) → List·Memᴰ k ks → r ≡ k .row →
+    one-if (begins s r) + countBeginning s (dropKit r ks) ≡ countBeginning s ks
+unfolding countBeginning beginsWith dropKit
+count-drop s r k [] m e = absurd (List·Memᴰ·not-nil m)
+count-drop s r k (x ∷ ks) m e =
+    by-cond (λ (L : List Kit). one-if (begins s r) + length (keep (beginsWith s) L) ≡ length (keep (beginsWith s) (x ∷ ks)))
+    (eqList r (x .row)) ks (x ∷ dropKit r ks)
+    (λ q. ap (λ (a : List ℕ). one-if (begins s a) + length (keep (beginsWith s) ks)) (eqList-true r (x .row) q)
+    ∙ sym (keep-one (beginsWith s) x ks))
+    (λ q.
+    let t : List·Memᴰ k ks = ⊎-elim
+    (λ (w : k ≡ x). absurd (never (sym (eqList-refl r) ∙ ap (eqList r) (e ∙ ap (λ (z : Kit). z .row) w) ∙ q)))
+    (λ t. t)
+    (List·Memᴰ·cases-cons m) in
+    omega (arith, keep-one (beginsWith s) x (dropKit r ks), keep-one (beginsWith s) x ks, count-drop s r k ks t e))
+
+pub count-in-order : (r : List ℕ) (ks : List Kit) → countBeginning r (inOrder ks) ≡ countBeginning r ks
+unfolding countBeginning
+count-in-order r ks = keep-order (beginsWith r) ks
+
+pub count-most : (r : List ℕ) (ks : List Kit) → countBeginning r ks ≤ length ks
+unfolding countBeginning
+count-most r ks = keep-short (beginsWith r) ks
+
+pub count-all : (ks : List Kit) → countBeginning [] ks ≡ length ks
+unfolding countBeginning beginsWith begins
+count-all ks = ap length (keep-all (beginsWith []) ks (λ k m. refl))
+
+some-member : {A : Type 0} (x : A) (xs : List A) → List·Memᴰ x xs → 0 < length xs
+some-member x [] m = absurd (List·Memᴰ·not-nil m)
+some-member x (y ∷ ys) m = omega arith
+
+pub count-some : (r : List ℕ) (k : Kit) (ks : List Kit) → List·Memᴰ k ks → begins r (k .row) ≡ true → 0 < countBeginning r ks
+unfolding countBeginning beginsWith
+count-some r k ks m e = some-member k (keep (beginsWith r) ks) (mem-keep (beginsWith r) k ks e m)
+
+module _ {parts : ℕ} {N : List ℕ} (S : Shape parts N) where
+  -- a row that no node has begins no kit: the kit's node would have one above it with that row
+  pub none-begins : (r : List ℕ) → ((j : ℕ) → Live N j → rowOf N j ≢ r) → countBeginning r (held N) ≡ 0
+  unfolding countBeginning beginsWith
+  none-begins r f = ap length (no-members (keep (beginsWith r) (held N)) (λ k m.
+      let o = keep-mem (beginsWith r) k (held N) m in
+      let h : Holds N (k .row) (k .tag) = held-holds S k (o .0) in
+      let s : List ℕ = drop (length r) (k .row) in
+      let b : rowOf N (h .node) ≡ r ++ s = h .is ∙ begins-front r (k .row) (o .1) in
+      let a : Ancestor N (h .node) (length r) = ancestor (climb S) (h .node) (h .live) (length r)
+      (omega (arith, row-length (climb S) (h .node) (h .live), ap length b, length-append r s)) in
+      f (a .node) (a .live)
+      (a .is ∙ ap (take (length r)) b ∙ take-append-le (length r) r s (omega arith) ∙ take-all (length r) r (omega arith))))
+
+  pub count-long : (r : List ℕ) → mostUnits < length r → countBeginning r (held N) ≡ 0
+  count-long r h = none-begins r (λ j l e. omega (arith, ap length e, row-good S j l .short))
+
+  only-root : (i : ℕ) → isUnder N i 0 ≡ true → i ≡ 0
+  unfolding isUnder upward anyb
+  only-root i h = let e : (eqb i 0 || false) ≡ true = rw (climb S .no-depth) at h in eqb-true i 0 (sym (or-false (eqb i 0)) ∙ e)
+
+  -- what a node is under is the root or used
+  pub under-live : (i j : ℕ) → Live N j → isUnder N i j ≡ true → Live N i
+  under-live i j l =
+      up-ind (climb S) (λ (j : ℕ). isUnder N i j ≡ true → Live N i)
+      (λ h. let e : i ≡ 0 = only-root i h in λ g. absurd (omega arith))
+      (λ j u f h. ⊎-elim
+      (λ (e : i ≡ j). λ _. subst (Used N) (sym e) u)
+      (λ (n : i ≢ j). f (under-parent S i j u n h))
+      (same-or i j))
+      j l
+
+  tags-few : (i : ℕ) → tagsUnder N i ≤ size N
+  unfolding tagsUnder nodesOf
+  tags-few i =
+      let A = from 0 (size N) in
+      let T = keep (tagged N) A in
+      omega (arith, keep-short (isUnder N i) T, keep-short (tagged N) A, length-from 0 (size N))
+
+module _ {parts : ℕ} {N : List ℕ} (So : Sound parts N) where
+  abbrev SN : Shape parts N
+  SN = So .shape
+
+  -- the word at a node is the number of kits held whose row begins with the node's row
+  pub tally-counts : (i : ℕ) → Live N i → tally N i ≡ countBeginning (rowOf N i) (held N)
+  unfolding countBeginning
+  tally-counts i l = So .tallies i l ∙ tags-under-held SN i l
+
+  -- at every node it is small: a free node, and what is beyond the table, has 0
+  pub tally-few : (i : ℕ) → tally N i ≤ mostNodes
+  tally-few i = ⊎-elim
+      (λ (h : size N ≤ i).
+      let b : length N ≤ at i tallyWord = omega (arith, SN .sized .whole) in
+      omega (arith, List·getD-eq-default N 0 b))
+      (λ (h : i < size N). ⊎-elim
+      (λ (e : i ≡ 0). live-few i (λ g. absurd (omega arith)))
+      (λ (g : 0 < i). ⊎-elim
+      (λ (z : label N i ≡ 0). omega (arith, SN .free i g h z tallyWord (omega arith)))
+      (λ (n : 0 < label N i). live-few i (λ _. record { inside = h; named = n }))
+      (zero-or (label N i)))
+      (zero-or i))
+      (le-or (size N) i)
+    where
+      live-few : (i : ℕ) → Live N i → tally N i ≤ mostNodes
+      live-few i l = omega (arith, So .tallies i l, tags-few SN i, SN .sized .most)
+
+  -- from a tagged node upwards it is never 0
+  pub tally-some : (i j : ℕ) → Live N j → 0 < tag N j → isUnder N i j ≡ true → 0 < tally N i
+  tally-some i j l t h =
+      let v : Live N i = under-live SN i j l h in
+      omega (
+        arith,
+        tally-counts i v,
+        count-some (rowOf N i) (kit (rowOf N j) (tag N j)) (held N)
+            (holds-held SN (rowOf N j) (tag N j) (record { node = j; live = l; is = refl; has = refl; some-tag = t }))
+            (sym (under-begins SN i j v l) ∙ h),
+      )
+
+  -- the root's number is that of all kits held
+  pub root-counts : tally N 0 ≡ length (held N)
+  root-counts =
+      tally-counts 0 (λ g. absurd (omega arith)) ∙ ap (λ (r : List ℕ). countBeginning r (held N)) (row-root (climb SN)) ∙ count-all (held N)
