@@ -1,8 +1,8 @@
 -- The numbers of kits changed along a path: every other word stays, and each number on the path is changed once.
 use mathlib.Core.Path.{_≡_, refl, sym, ap, subst, _∙_}
 use mathlib.Core.Logic.{_≢_, ⊎-elim}
-use mathlib.Core.Bool.{Bool, true, false, cond, or-false}
-use mathlib.Core.List.{List, [], _∷_}
+use mathlib.Core.Bool.{Bool, true, false, _||_, cond, or-false, or-true}
+use mathlib.Core.List.{List, [], _∷_, List·Memᴰ, List·Memᴰ·head}
 use Prim.Native.Nat.{ℕ, zero, suc, _≤_, _<_}
 use native.Mathlib.Numerals.{add-one}
 use native.Mathlib.Omega.{arith}
@@ -16,7 +16,7 @@ use Rattle.nodes.specs.Nodes.{at, tagWord, tallyWord, parent, label, depth, tag
 use Rattle.nodes.specs.Inner.{Used, Live, Shape}
 use Rattle.nodes.specs.Held.{held}
 use Rattle.nodes.proofs.Lists.{same-or}
-use Rattle.nodes.proofs.Sorted.{Every, also, Rising, ahead, none, every-mem, every-map, anyb-eqb}
+use Rattle.nodes.proofs.Sorted.{Every, also, Rising, ahead, none, every-mem, every-map, anyb-eqb, eqb-anyb}
 use Rattle.nodes.proofs.Rows.{climb, parent-live, live-inside, up-ind}
 use Rattle.index_links.specs.Links.{recount}
 use Rattle.index_links.proofs.Alike.{Alike, alike-then, alike-upward, alike-shape, alike-free, alike-held}
@@ -31,6 +31,14 @@ module _ (N : List ℕ) (i x : ℕ) where
 
   pub renumber-tag : (j : ℕ) → tag (set N (at i tallyWord) x) j ≡ tag N j
   renumber-tag j = getD-set-other N (at i tallyWord) (at j tagWord) x 0 (omega arith)
+
+  pub renumber-tally : (j : ℕ) → j ≢ i → tally (set N (at i tallyWord) x) j ≡ tally N j
+  renumber-tally j n = getD-set-other N (at i tallyWord) (at j tallyWord) x 0 (omega arith)
+
+  pub renumber-shape : {parts : ℕ} → Shape parts N → Live N i → Shape parts (set N (at i tallyWord) x)
+  renumber-shape S l = alike-shape renumber-alike S (λ j g h z.
+      let n : j ≢ i = λ (e : j ≡ i). omega (arith, l (omega arith) .named, ap (label N) e) in
+      (renumber-tag j, renumber-tally j n))
 
 -- all of a path
 pub recount-alike : (f : ℕ → ℕ) (N : List ℕ) (k i : ℕ) → Alike N (recount f N k i)
@@ -109,6 +117,11 @@ module _ {parts : ℕ} {N : List ℕ} (S : Shape parts N) where
   unfolding upward
   upward-step i u = rw (S .good i u .deeper, add-one)
 
+  upward-begins : (k i : ℕ) → List·Memᴰ i (upward N k i)
+  unfolding upward
+  upward-begins zero i = List·Memᴰ·head refl
+  upward-begins (suc k) i = List·Memᴰ·head refl
+
   abbrev NoDeeper : ℕ → List ℕ → Type 0
   NoDeeper d xs = Every (λ (j : ℕ). depth N j ≤ d) xs
 
@@ -128,6 +141,21 @@ module _ {parts : ℕ} {N : List ℕ} (S : Shape parts N) where
       (λ i u h. subst (Rising _≢_) (sym (upward-step i u))
       (ahead (every-map (λ j g (e : i ≡ j). omega (arith, g, S .good i u .deeper, ap (depth N) e)) (no-deeper (parent N i) (S .good i u .above))) h))
       i l
+
+  pub under-itself : (i : ℕ) → isUnder N i i ≡ true
+  unfolding isUnder
+  under-itself i = eqb-anyb i (upward N (depth N i) i) (upward-begins (depth N i) i)
+
+  -- what a used node's parent is under, the node is under, and it is not the node
+  pub under-above : (i j : ℕ) → Used N i → isUnder N j (parent N i) ≡ true → isUnder N j i ≡ true
+  unfolding isUnder anyb
+  under-above i j u h = ap (anyb (eqb j)) (upward-step i u) ∙ ap (λ (b : Bool). eqb j i || b) h ∙ or-true (eqb j i)
+
+  pub above-other : (i j : ℕ) → Used N i → isUnder N j (parent N i) ≡ true → j ≢ i
+  unfolding isUnder
+  above-other i j u h e =
+      let q = parent N i in
+      omega (arith, ap (depth N) e, S .good i u .deeper, every-mem (no-deeper q (S .good i u .above)) (anyb-eqb j (upward N (depth N q) q) h))
 
 module _ {parts : ℕ} {N : List ℕ} (S : Shape parts N) (f : ℕ → ℕ) (i : ℕ) (l : Live N i) where
   abbrev R : List ℕ
