@@ -1,5 +1,5 @@
 -- The node that a row leads to below another: it is the one node with that row.
-use mathlib.Core.Path.{_≡_, refl, sym, ap, _∙_}
+use mathlib.Core.Path.{_≡_, refl, sym, ap, ap₂, _∙_}
 use mathlib.Core.Logic.{_≢_}
 use mathlib.Core.List.{List, [], _∷_, _++_, append-assoc, append-nil}
 use Prim.Native.Nat.{ℕ, suc, _+_, _<_}
@@ -8,13 +8,12 @@ use lib.ListN.{length, take, length-append}
 use lib.Seq.{take-append-le, take-all}
 use Rattle.nodes.specs.Nodes.{parent, label, depth, size, rowOf}
 use Rattle.nodes.specs.Inner.{Used, Live, Shape}
-use Rattle.nodes.proofs.Rows.{climb, live-inside, length-snoc, row-length, row-step, deep-used, snoc-injective, Ancestor, ancestor}
+use Rattle.nodes.proofs.Rows.{climb, live-inside, length-snoc, row-root, row-length, row-step, deep-used, snoc-injective, Ancestor, ancestor}
 use Rattle.nodes.proofs.Order.{one-node}
-use Rattle.index_links.specs.Links.{childWith, nodeOf}
+use Rattle.index_links.specs.Links.{childWith, nodeOf, oneMore, recount}
 use Rattle.index_links.proofs.Chains.{with-found, with-row, with-missing}
-use Rattle.index_insert.specs.Enter.{enterBelow, lacks}
-use Rattle.index_insert.specs.Inner.{Enters}
-use Rattle.index_insert.proofs.Entered.{Entered, entered}
+use Rattle.index_insert.specs.Enter.{enterBelow, enter}
+use Rattle.index_insert.proofs.Entered.{Entered}
 
 -- all of a row but what comes behind its next label
 take-next : (r : List ℕ) (l : ℕ) (ls : List ℕ) → take (suc (length r)) (r ++ (l ∷ ls)) ≡ r ++ (l ∷ [])
@@ -49,9 +48,23 @@ module _ {parts : ℕ} {N : List ℕ} (S : Shape parts N) where
       ap (λ (r : List ℕ). r ++ ls) (with-row S home l (childWith N p l) refl (omega arith)) ∙ append-assoc (rowOf N p) (l ∷ []) ls in
       node-of-row ls (childWith N p l) e (λ _. w .0) le (h ∙ sym c)
 
--- a row that is entered leads to its end
-pub entered-node : {parts : ℕ} (ls N : List ℕ) (p t : ℕ) (E : Enters parts N p ls) → nodeOf (enterBelow N p ls t) p ls ≡ entered ls N p t E .end
-entered-node {parts = parts} ls N p t E =
-    let X : Entered parts N (enterBelow N p ls t) p (rowOf N p ++ ls) t (lacks N p ls) = entered ls N p t E in
-    node-of-row (X .shape) ls p (X .end) (λ g. X .used p (E .live g)) (X .live)
-    (X .is ∙ ap (λ (r : List ℕ). r ++ ls) (sym (X .rows p (E .live))))
+-- A row that is entered leads to its end, from the root and from every node on its way
+module _ {parts q t new : ℕ} {N M r : List ℕ} (X : Entered parts N M q r t new) where
+  pub entered-node : (p : ℕ) (ls : List ℕ) → Live N p → rowOf N p ++ ls ≡ r → nodeOf M p ls ≡ X .end
+  entered-node p ls l e =
+      node-of-row (X .shape) ls p (X .end) (λ g. X .used p (l g)) (X .live)
+      (X .is ∙ sym e ∙ ap (λ (x : List ℕ). x ++ ls) (sym (X .rows p l)))
+
+  root-leads : nodeOf M 0 r ≡ X .end
+  root-leads =
+      node-of-row (X .shape) r 0 (X .end) (λ g. absurd (omega arith)) (X .live)
+      (X .is ∙ ap (λ (x : List ℕ). x ++ r) (sym (row-root (climb (X .shape)))))
+
+  end-deep : length r ≡ depth M (X .end)
+  end-deep = sym (ap length (X .is)) ∙ row-length (climb (X .shape)) (X .end) (X .live)
+
+  -- the kit is counted in from there
+  pub enter-counts : M ≡ enterBelow N 0 r t → enter N r t ≡ recount oneMore M (depth M (X .end)) (X .end)
+  unfolding enter
+  enter-counts w =
+      ap (λ (Y : List ℕ). recount oneMore Y (length r) (nodeOf Y 0 r)) (sym w) ∙ ap₂ (λ (k j : ℕ). recount oneMore M k j) end-deep root-leads
