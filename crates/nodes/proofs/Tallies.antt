@@ -128,7 +128,7 @@ module _ {parts : ℕ} {N : List ℕ} (S : Shape parts N) where
 ------------------------------------------------------------------------
 -- Under a node, by the walk: the node, and what the walk from its first child meets
 
-no-chain : (N : List ℕ) (n : ℕ) → chain N n 0 ≡ []
+pub no-chain : (N : List ℕ) (n : ℕ) → chain N n 0 ≡ []
 unfolding chain
 no-chain N zero = refl
 no-chain N (suc n) = refl
