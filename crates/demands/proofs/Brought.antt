@@ -44,7 +44,7 @@ use Rattle.catalogue.proofs.Kept.{done-parts, same-register-length, same-nodes-
 use Rattle.catalogue.proofs.Kept.{empty-sound, register-keeps-sound, insert-keeps-sound, delete-keeps-sound}
 use Rattle.catalogue.specs.Calls.{Call, emptyBoth, registerPart, lookUp, showAt, insertKit, findKit, deleteKit, anyWithin, anyContaining}
 use Rattle.catalogue.specs.Calls.{allWithin, allContaining, allAlmost, writeSheet, readSheet, planOf, emptying, inserting, finding}
-use Rattle.catalogue.specs.Calls.{deleting, anyKit, reading}
+use Rattle.catalogue.specs.Calls.{countKits, deleting, counting, anyKit, reading}
 use Rattle.demands.specs.Model as demand
 use Rattle.demands.specs.Model.{has, listedIn, step, model, run, log, Catalogue, Allowed, begun}
 use Rattle.demands.specs.Model.{tablesOf, entered}
@@ -243,7 +243,7 @@ pub record Typed (c : Call) : Type 0 where
 
 pub done-keeps : (c : Call) (T : Tables) (m : Contents) (v : ℕ) → Typed c → answer (planOf c T) ≡ done v → Brought T m →
     Brought (planOf c T .after) (demand.accepted c m)
-unfolding planOf demand.accepted answer lookingUp showing finding anyKit
+unfolding planOf demand.accepted answer lookingUp showing finding counting anyKit
 done-keeps emptyBoth T m v y e b = empty-kept T v e
 done-keeps (registerPart n) T m v y e b = register-kept n T m v e b
 done-keeps (lookUp n) T m v y e b = b
@@ -251,6 +251,7 @@ done-keeps (showAt p) T m v y e b = b
 done-keeps (insertKit l t) T m v y e b = insert-kept l t T m v (y .tag l t refl) e b
 done-keeps (findKit l) T m v y e b = b
 done-keeps (deleteKit l) T m v y e b = delete-kept l T m v e b
+done-keeps (countKits l) T m v y e b = b
 done-keeps (anyWithin l) T m v y e b = b
 done-keeps (anyContaining l) T m v y e b = b
 done-keeps (allWithin l o) T m v y e b = b
