@@ -140,10 +140,6 @@ module _ (R N : List ℕ) where
           (promise-part (tables R) (deletingRow (units l) N) N q N′ (rw row at p))
 
       -- Counting
-      pub count-refused : isRefused r ≡ true → r ≡ answer (counting l (tables R N))
-      unfolding counting answer
-      count-refused e = whole-refuses r _ 0 _ is e
-
       pub count-done : (us : List ℕ) (n : ℕ) → isRefused r ≡ false → us ≡ units l → n ≡ countBeginning us (held N) →
           done n ≡ answer (counting l (tables R N))
       unfolding counting answer
@@ -155,6 +151,10 @@ module _ (R N : List ℕ) where
           done 0 ≡ answer (counting l (tables R N))
       count-too-long e s h =
           count-done (units l) 0 e refl (sym (count-long (s .shape) (units l) (leb-false (length (units l)) mostUnits h)))
+
+      pub count-refused : isRefused r ≡ true → r ≡ answer (counting l (tables R N))
+      unfolding counting answer
+      count-refused e = whole-refuses r _ 0 _ is e
 
       -- The questions
       module _ (question : List ℕ → Kit → Bool) where
