@@ -15,6 +15,7 @@ use Rattle.nodes.specs.Held.{Kit}
 use Rattle.nodes.proofs.Fields.{length-sized}
 use Rattle.nodes.proofs.Rows.{climb, row-root}
 use Rattle.nodes.proofs.Sorted.{every-mem}
+use Rattle.nodes.proofs.Tallies.{tally-few}
 use Rattle.index_insert.specs.Enter.{enter, enterAll}
 use Rattle.index_insert.specs.Inner.{Enters}
 use Rattle.index_append.specs.Inner.{LastEntered, Appendable}
@@ -130,7 +131,7 @@ module _ {s : List ℕ} {from m : ℕ} {Z nodes : List ℕ} {prev : Row} {at n k
 
       pub may-append : ((prev .len ≤ mostUnits) × (row .len ≤ mostUnits)) × Appendable nodes n (unitsIn prev) (unitsIn row)
       may-append =
-          ((F .short, may-be), subst (Appendable nodes n (unitsIn prev)) (sym is-row) (upcoming-ready upcoming-now enters))
+          ((F .short, may-be), subst (Appendable nodes n (unitsIn prev)) (sym is-row) (upcoming-ready upcoming-now enters (tally-few (F .rest .sound))))
 
       pub filling-on : {M : List ℕ} {n′ : ℕ} → M ≡ enter nodes (unitsIn row) t → LastEntered M n′ (unitsIn row) → (r : ℕ) →
           r ≡ recordEnd s at → Filling s from m Z M row r n′ (k + 1)
