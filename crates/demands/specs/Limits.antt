@@ -10,6 +10,7 @@ use Rattle.ground.specs.Calls.{Reply, done, refused, numberOf, valueOf, decide,
 use Rattle.ground.specs.Tables.{Tables, tables}
 use Rattle.register.specs.Calls.{registering, lookingUp, showing}
 use Rattle.kits.specs.Kits.{lineValue, listFaults}
+use Rattle.nodes.specs.Nodes.{wordsPerNode}
 use Rattle.questions.specs.Questions.{isWithin, isContaining}
 use Rattle.sheet.specs.Sheet.{encode}
 use Rattle.catalogue.specs.Calls.{Call, registerPart, insertKit, deleteKit, emptying, inserting, finding, anyKit, allKits, almostKits, reading, counting}
@@ -20,7 +21,7 @@ abbrev pub zeroTables : ℕ → ℕ → Tables
 zeroTables r n = tables (replicate r 0) (replicate n 0)
 
 abbrev pub emptyTables : ℕ → ℕ → Tables
-emptyTables slots nodes = zeroTables (slots * 32) (nodes * 7)
+emptyTables slots nodes = zeroTables (slots * 32) (nodes * wordsPerNode)
 
 ------------------------------------------------------------------------
 -- "A part number is 1 to 24 bytes, each a digit, a capital A to Z, hyphen, full stop or slash." "The letters a to z join the allowed bytes."
@@ -162,7 +163,7 @@ abbrev pub badRegister : List ℕ
 badRegister = replicate 32 1
 
 abbrev pub badNodes : List ℕ
-badNodes = 1 ∷ replicate 6 0
+badNodes = 1 ∷ replicate (wordsPerNode - 1) 0
 
 abbrev pub OrderOfRefusals : Type 0
 OrderOfRefusals =
@@ -170,7 +171,7 @@ OrderOfRefusals =
     (answer (finding [] (tables badRegister [])) ≡ refused 1 0)
     × (answer (finding [] (tables [] badNodes)) ≡ refused 1 0)
     -- 2 register and 8; 2 nodes and 8; 8 and 4; 6 and 7
-    × (answer (inserting [] 0 (tables badRegister (replicate 7 0))) ≡ refused 2 0)
+    × (answer (inserting [] 0 (tables badRegister (replicate wordsPerNode 0))) ≡ refused 2 0)
     × (answer (inserting [] 0 (tables (replicate 32 0) badNodes)) ≡ refused 2 0)
     × (answer (inserting (1 ∷ []) 0 twoKits) ≡ refused 8 0)
     × (answer (inserting (sixtyAnd 16) 7 (fiveParts 1)) ≡ refused 6 5)
