@@ -29,28 +29,28 @@ CountingIn = Counting oneMore (λ (n : ℕ). n ≤ mostNodes)
 abbrev pub CountingOut : List ℕ → ℕ → List ℕ → ℕ → Type 0
 CountingOut = Counting oneLess (λ (n : ℕ). 0 < n)
 
-pub count-in-start : {N : List ℕ} {i : ℕ} → CountsIn N i → CountingIn N i N i
-count-in-start C = record { same-length = refl; shape = C .shape; live = C .live; able = λ j _. C .few j; same = refl }
+pub counting-in : {N : List ℕ} {i : ℕ} → CountsIn N i → CountingIn N i N i
+counting-in C = record { same-length = refl; shape = C .shape; live = C .live; able = λ j _. C .few j; same = refl }
 
-pub count-out-start : {N : List ℕ} {i : ℕ} → CountsOut N i → CountingOut N i N i
-count-out-start C = record { same-length = refl; shape = C .shape; live = C .live; able = C .some; same = refl }
+pub counting-out : {N : List ℕ} {i : ℕ} → CountsOut N i → CountingOut N i N i
+counting-out C = record { same-length = refl; shape = C .shape; live = C .live; able = C .some; same = refl }
 
 module _ {f : ℕ → ℕ} {Able : ℕ → Type 0} {N₀ N : List ℕ} {i₀ i : ℕ} (C : Counting f Able N₀ i₀ N i) where
-  pub count-inside : i < size N
-  count-inside = live-inside (climb (C .shape)) i (C .live)
+  pub counting-inside : i < size N
+  counting-inside = live-inside (climb (C .shape)) i (C .live)
 
-  pub root-inside : 0 < size N
-  root-inside = C .shape .sized .some-node
+  pub counting-root : 0 < size N
+  counting-root = C .shape .sized .some-node
 
-  pub count-able : Able (tally N i)
-  count-able = C .able i (under-itself (C .shape) i)
+  pub counting-able : Able (tally N i)
+  counting-able = C .able i (under-itself (C .shape) i)
 
-  pub root-able : i ≡ 0 → Able (tally N 0)
-  root-able z = subst (λ (j : ℕ). Able (tally N j)) z count-able
+  pub counting-root-able : i ≡ 0 → Able (tally N 0)
+  counting-root-able z = subst (λ (j : ℕ). Able (tally N j)) z counting-able
 
-  pub count-end : i ≡ 0 → {n : ℕ} {L : List ℕ} → n ≡ tally N 0 → L ≡ set N (at 0 tallyWord) (f n) → L ≡ recount f N₀ (depth N₀ i₀) i₀
+  pub counting-end : i ≡ 0 → {n : ℕ} {L : List ℕ} → n ≡ tally N 0 → L ≡ set N (at 0 tallyWord) (f n) → L ≡ recount f N₀ (depth N₀ i₀) i₀
   unfolding recount
-  count-end z {n} {L} e le =
+  counting-end z {n} {L} e le =
       le ∙ ap (λ (x : ℕ). set N (at 0 tallyWord) (f x)) e ∙ ap (λ (k : ℕ). recount f N k 0) (sym (C .shape .root .no-depth))
       ∙ ap (λ (j : ℕ). recount f N (depth N j) j) (sym z) ∙ C .same
 
@@ -70,8 +70,8 @@ module _ {f : ℕ → ℕ} {Able : ℕ → Type 0} {N₀ N : List ℕ} {i₀ i :
     deep : depth N i ≡ suc (depth N (parent N i))
     deep = C .shape .good i used .deeper ∙ add-one (depth N (parent N i))
 
-    pub count-less : depth L q < depth N i
-    count-less = rw (qe, is) (omega (arith, alike-depth A (parent N i), deep))
+    pub counting-less : depth L q < depth N i
+    counting-less = rw (qe, is) (omega (arith, alike-depth A (parent N i), deep))
 
     still-able : (j : ℕ) → isUnder K j (parent N i) ≡ true → Able (tally K j)
     still-able j h =
@@ -82,8 +82,8 @@ module _ {f : ℕ → ℕ} {Able : ℕ → Type 0} {N₀ N : List ℕ} {i₀ i :
     unfolding recount
     same-up = rw (alike-depth A (parent N i), deep)
 
-    pub count-up : Counting f Able N₀ i₀ L q
-    count-up = rw (qe, is) (record {
+    pub counting-up : Counting f Able N₀ i₀ L q
+    counting-up = rw (qe, is) (record {
       same-length = A .lengths ∙ C .same-length;
       shape = renumber-shape N i (f (tally N i)) (C .shape) (C .live);
       live = alike-live A (parent N i) (C .shape .good i used .above);
