@@ -20,7 +20,7 @@ returns c =
 tally-at-requires : tie.Need-tally-at-requires
 tally-at-requires c κs =
     let start : tie.Start = search in
-    live-inside (climb (start .pre .0 .shape)) (start .args .p) (start .pre .1 .going .live)
+    omega (arith, live-inside (climb (start .pre .0 .shape)) (start .args .p) (start .pre .1 .going .live))
 
 wide16-requires : tie.Need-wide16-requires
 wide16-requires c κs = search needs
