@@ -6,10 +6,10 @@ use Prim.Native.Nat.{ℕ, _<_}
 use native.Mathlib.Omega.{arith}
 use lib.ListN.{length, set, length-set}
 use lib.Seq.{getD-set-same, getD-set-other}
-use Rattle.nodes.specs.Nodes.{at, tagWord, parent, child, next, label, depth, tag, tally, size, rowOf}
+use Rattle.nodes.specs.Nodes.{at, tagWord, tallyWord, child, label, depth, tag, tally, size, rowOf}
 use Rattle.nodes.specs.Inner.{Used, Live, Shape}
 use Rattle.index_links.proofs.Splice.{Pending}
-use Rattle.index_links.proofs.Alike.{Alike, alike-back, alike-parent, alike-child, alike-next, alike-label, alike-depth, alike-used, alike-row, alike-shape}
+use Rattle.index_links.proofs.Alike.{Alike, alike-back, alike-child, alike-label, alike-depth, alike-used, alike-row, alike-shape}
 
 module _ (N : List ℕ) (p t : ℕ) where
   abbrev M : List ℕ
@@ -24,14 +24,8 @@ module _ (N : List ℕ) (p t : ℕ) where
   pub retag-length : length M ≡ length N
   retag-length = retag-alike .lengths
 
-  pub retag-parent : (i : ℕ) → parent M i ≡ parent N i
-  retag-parent = alike-parent retag-alike
-
   pub retag-child : (i : ℕ) → child M i ≡ child N i
   retag-child = alike-child retag-alike
-
-  pub retag-next : (i : ℕ) → next M i ≡ next N i
-  retag-next = alike-next retag-alike
 
   pub retag-label : (i : ℕ) → label M i ≡ label N i
   retag-label = alike-label retag-alike
@@ -40,13 +34,13 @@ module _ (N : List ℕ) (p t : ℕ) where
   retag-depth = alike-depth retag-alike
 
   pub retag-tally : (i : ℕ) → tally M i ≡ tally N i
-  retag-tally i = getD-set-other N (at p tagWord) (at i 6) t 0 (omega arith)
+  retag-tally i = getD-set-other N (at p tagWord) (at i tallyWord) t 0 (omega arith)
 
   pub retag-here : p < size N → tag M p ≡ t
   retag-here h = getD-set-same N (at p tagWord) t 0 (omega arith)
 
   pub retag-other : (i : ℕ) → i ≢ p → tag M i ≡ tag N i
-  retag-other i n = getD-set-other N (at p tagWord) (at i 5) t 0 (omega arith)
+  retag-other i n = getD-set-other N (at p tagWord) (at i tagWord) t 0 (omega arith)
 
   pub retag-to : (i : ℕ) → Used N i → Used M i
   retag-to = alike-used retag-alike

@@ -218,29 +218,26 @@ module _ {parts : ℕ} {N : List ℕ} (S : Shape parts N) where
   unfolding tagsFrom total keep
   along-none = ap (λ (xs : List ℕ). total (map (tally N) xs)) (no-chain N (size N)) ∙ sym (ap (λ (xs : List ℕ). length (keep (tagged N) xs)) (walk-none S))
 
-  module _ (local : (i : ℕ) → i < size N → tally N i ≡ one-if (tagged N i) + alongFrom (child N i)) where
-    along-walk : (h : ℕ) → Live N h → alongFrom h ≡ tagsFrom h
-    along-walk h l =
-        ind S (λ (h : ℕ). alongFrom h ≡ tagsFrom h) along-none
-        (λ i u c n. omega (arith, chain-along i u, local i (u .inside), walk-tags i u))
-        h l
+  -- where each number is right by what the walk below its node meets, once that is so of the chain below it
+  along-walk : ((i : ℕ) → Used N i → alongFrom (child N i) ≡ tagsFrom (child N i) → tally N i ≡ one-if (tagged N i) + tagsFrom (child N i)) →
+      (h : ℕ) → Live N h → alongFrom h ≡ tagsFrom h
+  along-walk right h l =
+      ind S (λ (h : ℕ). alongFrom h ≡ tagsFrom h) along-none (λ i u c n. omega (arith, chain-along i u, right i u c, walk-tags i u)) h l
 
-    -- numbers that are right by the chain below each node are the document's
-    pub local-tallies : (i : ℕ) → Live N i → tally N i ≡ tagsUnder N i
-    local-tallies i l =
-        let h : i < size N = live-inside (climb S) i l in
-        omega (arith, local i h, along-walk (child N i) (child-live S i h), tags-under-walk i l)
+  -- numbers that are right by the chain below each node are the document's
+  pub local-tallies : ((i : ℕ) → i < size N → tally N i ≡ one-if (tagged N i) + alongFrom (child N i)) →
+      (i : ℕ) → Live N i → tally N i ≡ tagsUnder N i
+  local-tallies local i l =
+      let h : i < size N = live-inside (climb S) i l in
+      let e = along-walk (λ i u c. local i (u .inside) ∙ ap (λ (n : ℕ). one-if (tagged N i) + n) c) (child N i) (child-live S i h) in
+      omega (arith, local i h, e, tags-under-walk i l)
 
   -- and the document's are right by the chain below each node
-  module _ (tallies : (i : ℕ) → Live N i → tally N i ≡ tagsUnder N i) where
-    along-told : (h : ℕ) → Live N h → alongFrom h ≡ tagsFrom h
-    along-told h l =
-        ind S (λ (h : ℕ). alongFrom h ≡ tagsFrom h) along-none
-        (λ i u c n. omega (arith, chain-along i u, tallies i (λ _. u), tags-under-walk i (λ _. u), walk-tags i u))
-        h l
-
-    pub tallies-local : (i : ℕ) → Live N i → tally N i ≡ one-if (tagged N i) + alongFrom (child N i)
-    tallies-local i l = omega (arith, tallies i l, tags-under-walk i l, along-told (child N i) (child-live S i (live-inside (climb S) i l)))
+  pub tallies-local : ((i : ℕ) → Live N i → tally N i ≡ tagsUnder N i) →
+      (i : ℕ) → Live N i → tally N i ≡ one-if (tagged N i) + alongFrom (child N i)
+  tallies-local told i l =
+      let e = along-walk (λ i u c. told i (λ _. u) ∙ tags-under-walk i (λ _. u)) (child N i) (child-live S i (live-inside (climb S) i l)) in
+      omega (arith, told i l, tags-under-walk i l, e)
 
 ------------------------------------------------------------------------
 -- How many kits of a list begin with a row

@@ -11,7 +11,7 @@ use Rattle.ground.specs.Limits.{twoLimit}
 use Rattle.kits.specs.Kits.{count, mostUnits, mostQuantity}
 use Rattle.nodes.specs.Nodes.{mostNodes, parent, child, next, label, depth, tag, tally, size, tagged, rowOf, chain}
 use Rattle.nodes.specs.Inner.{Used, Live, Zero, OnChain, Head, Links, total}
-use Rattle.nodes_check.specs.declared.Chained.{Chained}
+use Rattle.nodes_check.specs.declared.Chain.{Chain}
 
 -- what is asked of every node of the table
 pub record Each (N : List ℕ) (P : ℕ → Type 0) : Type 0 where
@@ -72,7 +72,7 @@ abbrev pub mostSum : ℕ
 mostSum = mostNodes * twoLimit
 
 -- what a walk along the chain from a link on tells
-pub record Walked (N : List ℕ) (h : ℕ) (c : Chained) : Type 0 where
+pub record Walked (N : List ℕ) (h : ℕ) (c : Chain) : Type 0 where
   pub tells-nodes : c .nodes ≡ chainLength N h
   pub tells-tags : c .tags ≡ chainTags N h
   pub bounded : c .tags ≤ mostSum

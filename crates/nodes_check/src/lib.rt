@@ -174,13 +174,13 @@ fn spots_ok(nodes: &[u16], parts: u16) -> bool
 }
 
 // What a chain comes to: how many nodes it has, and how many tagged nodes these say are at or below them.
-struct Chained {
+struct Chain {
     pub nodes: usize,
     pub tags: usize,
 }
 
 // Walks the chain that starts at the link h. No node comes twice, so the sum of their words is bounded, damaged ones too.
-fn walk_chain(nodes: &[u16], h: usize) -> Chained
+fn walk_chain(nodes: &[u16], h: usize) -> Chain
     requires { ⌜ Siblings (now nodes) ⌝ ∗ ⌜ Live (now nodes) h ⌝ ∗ ⌜ size (now nodes) ≤ mostNodes ⌝ }
     ensures { λ r. ⌜ Walked (now (nodes .entry)) h r ⌝ }
 {
@@ -193,7 +193,7 @@ fn walk_chain(nodes: &[u16], h: usize) -> Chained
         k += 1;
         at = s;
     }
-    Chained {
+    Chain {
         nodes: k,
         tags: sum,
     }
