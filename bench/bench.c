@@ -83,7 +83,7 @@ void section_growth(void)
 
 static const struct { const char *name; void (*run)(void); } section[] = {
     {"page", section_page}, {"asks", section_asks}, {"calls", section_calls}, {"checks", section_checks},
-    {"growth", section_growth}, {"sheet", section_sheet}, {"lines", section_lines}};
+    {"counts", section_counts}, {"growth", section_growth}, {"sheet", section_sheet}, {"lines", section_lines}};
 enum { SECTIONS = sizeof section / sizeof *section };
 
 int main(int argc, char **argv)

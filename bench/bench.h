@@ -25,6 +25,10 @@ int call_times(double ns[CALLS][TIERS]); // kits inserted, 0 where there is no r
 // checks.c
 enum { CHECK_TABLES, CHECK_REGISTER, CHECK_PAIRS, CHECK_HASH, CHECK_NODES, CHECK_C_NODES, CHECK_JOBS };
 void check_times(double *ns);
+// counts.c
+enum { BEGIN_NONE, BEGIN_ONE, BEGIN_HALF, BEGINNINGS }; // the units that kits are to begin with: none, a kit's first, the first half of a kit's
+enum { COUNT_PUBLIC, COUNT_INNER, COUNT_C_WORD, COUNT_C_WALK, COUNT_JOBS };
+double count_times(int beginning, double *ns);          // the kits that begin so, on average
 // sheets.c
 enum { WRITE_PUBLIC, WRITE_INNER, WRITE_C, READ_PUBLIC, READ_JUDGE, READ_C, SHEET_JOBS };
 size_t sheet_times(double *ns);        // the sheet's bytes
@@ -39,6 +43,7 @@ LineTimes other_line(const char *line);
 void section_asks(void);
 void section_calls(void);
 void section_checks(void);
+void section_counts(void);
 void section_growth(void);
 void section_sheet(void);
 void section_lines(void);

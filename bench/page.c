@@ -83,6 +83,18 @@ static void insert_row(void)
     row("insert a kit, inner: 3,072 of 4,096 nodes used", &ns[CALL_INSERT][TIER_INNER], &ns[CALL_INSERT][TIER_C_TABLE], 1);
 }
 
+static void count_rows(void)
+{
+    double ns[COUNT_JOBS], ours[BEGINNINGS], word[BEGINNINGS], walk[BEGINNINGS];
+    shop(MOST_NODES);
+    for (int b = 0; b < BEGINNINGS; b++) {
+        count_times(b, ns);
+        ours[b] = ns[COUNT_INNER], word[b] = ns[COUNT_C_WORD], walk[b] = ns[COUNT_C_WALK];
+    }
+    row("count the kits that begin so, inner: a shop, no unit · one · half a kit's", ours, word, BEGINNINGS);
+    row("count the kits that begin so, inner, beside a walk that counts: the same", ours, walk, BEGINNINGS);
+}
+
 static void ask_row(const char *what, int ask, int plain)
 {
     double ns[OURS + PLAIN_WAYS];
@@ -186,6 +198,7 @@ void section_page(void)
     check_rows();
     sheet_rows();
     insert_row();
+    count_rows();
     ask_rows();
     grown_checks();
     grown_sheets();

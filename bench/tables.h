@@ -3,9 +3,9 @@
 #define TABLES_H
 #include "calls.h"
 
-enum { MOST_KITS = 4096, MOST_NODES = 4096, MOST_PARTS = 255, PLACES = 256, MOST_UNITS = 64, QUERIES = 64, SLOT = 32, WORDS = 6 };
+enum { MOST_KITS = 4096, MOST_NODES = 4096, MOST_PARTS = 255, PLACES = 256, MOST_UNITS = 64, QUERIES = 64, SLOT = 32, WORDS = 7 };
 
-typedef struct { uint16_t parent, child, next, label, depth, tag; } Node;
+typedef struct { uint16_t parent, child, next, label, depth, tag, tally; } Node; // tally: the kits at or below it
 
 typedef struct { uint16_t w[2 * PLACES]; int n; } List; // n words: place, quantity, ..
 
@@ -30,6 +30,7 @@ typedef struct {
 uint64_t draw(void);              // 64 random bits
 unsigned below(unsigned n);       // 0 .. n-1
 uint16_t new_tag(void);           // one that no kit bears
+int units(const List *l);         // how many it has
 void table_start(Table *t, const char *name, int parts, int cap);
 void family(Table *t, const char *name, int sigma, int copies, double density);                     // W1
 void zipf(Table *t, const char *name, int cap, int parts, double s, int most_quantity, int bin);    // W4, W5

@@ -62,7 +62,7 @@ static bool spot_ok(const Node *t, int n, unsigned parts, int i)
     const Node *x = &t[i];
     if (x->child && (x->child >= n || !t[x->child].label || t[x->child].parent != i)) return false;
     if (i == 0) return true;
-    if (!x->label) return !(x->parent | x->child | x->next | x->depth | x->tag);
+    if (!x->label) return !(x->parent | x->child | x->next | x->depth | x->tag | x->tally);
     if (x->parent >= n) return false;
     const Node *q = &t[x->parent];
     if (x->depth != q->depth + 1 || x->depth > MOST_UNITS || x->label > parts || x->label < q->label || (x->parent && !q->label)) return false;
@@ -99,9 +99,19 @@ static bool few_equal(const Node *t, int n)
     return true;
 }
 
+// What each has to count: its own tag, and what is counted at its children.
+static bool tallies_ok(const Node *t, int n)
+{
+    unsigned under[MOST_NODES];
+    for (int i = 0; i < n; i++) under[i] = t[i].tag != 0;
+    for (int i = 1; i < n; i++) if (t[i].label) under[t[i].parent] += t[i].tally;
+    for (int i = 0; i < n; i++) if (t[i].tally != under[i]) return false;
+    return true;
+}
+
 bool plain_nodes(const Node *t, int n, unsigned parts)
 {
     if (!root_ok(t)) return false;
     for (int i = 0; i < n; i++) if (!spot_ok(t, n, parts, i)) return false;
-    return named_once(t, n) && few_equal(t, n);
+    return named_once(t, n) && few_equal(t, n) && tallies_ok(t, n);
 }

@@ -104,8 +104,15 @@ static void link_below(Node *t, int parent, int label, int depth, int new)
 {
     uint16_t *link = &t[parent].child;
     while (*link && t[*link].label < label) link = &t[*link].next;
-    t[new] = (Node){(uint16_t)parent, 0, *link, (uint16_t)label, (uint16_t)depth, 0};
+    t[new] = (Node){(uint16_t)parent, 0, *link, (uint16_t)label, (uint16_t)depth, 0, 0};
     *link = (uint16_t)new;
+}
+
+// One kit more, or less, at a node and at all above it.
+static void tally(Node *t, int at, int by)
+{
+    for (; at; at = t[at].parent) t[at].tally = (uint16_t)(t[at].tally + by);
+    t->tally = (uint16_t)(t->tally + by);
 }
 
 static bool is_borne(const Node *t, int cap, uint16_t tag)
@@ -139,6 +146,7 @@ int plain_insert(Node *t, int cap, const List *l, uint16_t tag, size_t *value)
         end.at = next;
     }
     t[end.at].tag = tag;
+    tally(t, end.at, 1);
     return DONE;
 }
 
@@ -149,13 +157,36 @@ int plain_delete(Node *t, const List *l, size_t *value)
     if (end.depth < r.n || !t[end.at].tag) return NOT_HELD;
     *value = t[end.at].tag;
     t[end.at].tag = 0;
+    tally(t, end.at, -1);
     for (int at = end.at; at && !t[at].child && !t[at].tag;) {
         int parent = t[at].parent;
         uint16_t *link = &t[parent].child;
         while (*link != at) link = &t[*link].next;
         *link = t[at].next;
-        t[at] = (Node){0, 0, 0, 0, 0, 0};
+        t[at] = (Node){0, 0, 0, 0, 0, 0, 0};
         at = parent;
     }
     return DONE;
+}
+
+// ---- how many kits begin with the units of a list: the node's word, or a walk below it
+size_t plain_count(const Node *t, const List *l)
+{
+    Row r = row_of(l);
+    Reached end = reached(t, &r);
+    return end.depth < r.n ? 0 : t[end.at].tally;
+}
+
+static size_t tags_from(const Node *t, int at)
+{
+    size_t n = 0;
+    for (; at; at = t[at].next) n += (t[at].tag != 0) + tags_from(t, t[at].child);
+    return n;
+}
+
+size_t walk_count(const Node *t, const List *l)
+{
+    Row r = row_of(l);
+    Reached end = reached(t, &r);
+    return end.depth < r.n ? 0 : (t[end.at].tag != 0) + tags_from(t, t[end.at].child);
 }

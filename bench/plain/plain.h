@@ -39,6 +39,8 @@ int map_delete(const List *l, size_t *value);
 int plain_find(const Node *t, const List *l, size_t *value);
 int plain_insert(Node *t, int cap, const List *l, uint16_t tag, size_t *value);
 int plain_delete(Node *t, const List *l, size_t *value);
+size_t plain_count(const Node *t, const List *l); // the kits that begin with it: the node's word
+size_t walk_count(const Node *t, const List *l);  // and counted below the node
 
 // ---- the checks (checks.c)
 bool pairs_register(const uint8_t *reg, size_t n); // each pair of numbers, byte by byte

@@ -33,7 +33,6 @@ size_t plain_write(const Table *table, uint8_t *start)
 {
     const Node *t = node_in(table);
     uint8_t lines[2 * (MOST_UNITS + 2)] = {0}, *out = start;
-    unsigned kits = 0;
     memcpy(out, "KIT", 3);
     out = put_two(put_two(out + 3, 1), (unsigned)table->parts);
     for (int k = 0; k < table->parts; k++) {
@@ -41,8 +40,7 @@ size_t plain_write(const Table *table, uint8_t *start)
         memcpy(out, s, 1u + s[0]);
         out += 1 + s[0];
     }
-    for (int i = 0; i < table->cap; i++) kits += t[i].tag != 0;
-    out = put_two(out, kits);
+    out = put_two(out, t->tally);
     if (t->tag) { out = put_two(out, t->tag); *out++ = 0; }
     return (size_t)(put_below(t, t->child, lines, 0, out) - start);
 }
@@ -101,6 +99,7 @@ static bool append_row(Reader *r, bool first, unsigned tag)
         r->path[d + 1] = (uint16_t)r->used++;
     }
     r->t[r->path[r->n]].tag = (uint16_t)tag;
+    r->t[r->path[r->n]].tally = 1;
     memcpy(r->prev, r->row, sizeof r->prev);
     r->len = r->n;
     return true;
@@ -135,5 +134,6 @@ int plain_read(const uint8_t *s, size_t size, uint8_t *reg, size_t slots, Node *
     int kits = r.at[0] << 8 | r.at[1];
     r.at += 2;
     for (int k = 0; k < kits; k++) if (!read_record(&r, k == 0)) return -1;
+    for (int i = r.used - 1; i > 0; i--) t[t[i].parent].tally += t[i].tally; // each node stands behind its parent
     return r.at == r.end ? kits : -1;
 }

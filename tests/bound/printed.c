@@ -6,7 +6,7 @@
 #include <stdio.h>
 #include <string.h>
 
-enum { REG = 4 * 32, NODES = 8 * 6, OUT = 4, SHEET = 34 };
+enum { NODE_WORDS = 7, REG = 4 * 32, NODES = 8 * NODE_WORDS, OUT = 4, SHEET = 34 };
 
 static const uint8_t PRINTED[SHEET] = {
     0x4B, 0x49, 0x54, 0x00, 0x01, 0x00, 0x03, 0x05, 0x30, 0x30, 0x37, 0x34, 0x31, 0x03, 0x37, 0x34, 0x31,
@@ -80,6 +80,9 @@ static void printed_lines(void) {
     answered(padrisk_all_almost(reg, REG, nodes, NODES, bin, 4, 2, tags, OUT, shorts, OUT, &value), 0, 3, "almost");
     expect(tags[0] == 9 && tags[1] == 7 && tags[2] == 5 && tags[3] == 64, "the kits almost filled are others");
     expect(shorts[0] == 0 && shorts[1] == 2 && shorts[2] == 0 && shorts[3] == 74, "their shortfalls are others");
+    answered(padrisk_count_beginning(reg, REG, nodes, NODES, one, 2, &value), 0, 2, "count");
+    answered(padrisk_count_beginning(reg, REG, nodes, NODES, one, 0, &value), 0, 3, "count of all");
+    answered(padrisk_count_beginning(reg, REG, nodes, NODES, third, 2, &value), 0, 0, "count of none");
     answered(padrisk_find(reg, REG, nodes, NODES, two_and_one, 4, &value), 0, 7, "F");
     answered(padrisk_delete(reg, REG, nodes, NODES, two_and_one, 4, &value), 0, 7, "D");
     answered(padrisk_find(reg, REG, nodes, NODES, two_and_one, 4, &value), 11, 0, "F behind D");

@@ -2,21 +2,24 @@
 
 The tables that the program answered go into its next request. Beside them the second program
 carries tables of its own, and every block of every answer is compared. The contents are a third
-account, kept by the calls and replies alone.
+account, kept by the calls and replies alone. Behind each call it is asked how many kits begin with
+some row, and the answer is held against the contents.
 """
 
 from run.door import Different
 from second import calls, nodes, register, sheet
-from second.kits import beginnings, lines_of, lines_of_words, units, words_of
+from second.kits import beginnings, first_fault, lines_of, lines_of_words, units, words_of
 from second.lent import Request
 from second.nodes import NODE_WORDS
+from second.refusals import DONE
 from second.register import SLOT_BYTES
 
-from .reached import ANSWER, SEQUENCES
+from .reached import ANSWER, COUNTED, COUNTED_BEHIND, SEQUENCES
 from .requests import fill_unused
 
-# The tables, which one call leaves to the next.
+# The tables, which one call leaves to the next, and the calls that replace all that they hold.
 TABLES = "RN"
+REPLACING = "er"
 
 
 class Contents:
@@ -53,6 +56,10 @@ class Contents:
         """The nodes that the kits take: "1 plus the number of different nonempty beginnings"."""
         return sheet.nodes_needed(self.kits.items())
 
+    def beginning_with(self, row):
+        """How many kits have this row as a beginning."""
+        return sum(row in beginnings([kit]) | {()} for kit in self.kits)
+
     def sheet(self):
         """The sheet that the document lays down for these contents."""
         return sheet.written(self.numbers, self.kits)
@@ -66,9 +73,24 @@ class Catalogue:
         self.theirs = {"R": register_bytes, "N": words}
         self.own = {"R": register_bytes, "N": words}
         self.contents = Contents()
+        # Tables that begin with anything hold the contents once a call has replaced all of it.
+        self.told = not any(register_bytes) and not any(words)
 
     def call(self, letter, a=0, **lent):
-        """The answer to this call, after which all of both accounts is the same."""
+        """The answer to this call, after which all of both accounts is the same.
+
+        Behind it, where the contents are told, the kits that begin with some row are counted.
+        """
+        came = self.answer_to(letter, a, **lent)
+        self.told = self.told or (came.done() and letter in REPLACING)
+        if self.told and letter != "#":
+            self.count_near(lent.get("L", []))
+            behind = letter if came.done() else None
+            self.came_to(COUNTED_BEHIND.get(behind), behind in COUNTED_BEHIND)
+        return came
+
+    def answer_to(self, letter, a, **lent):
+        """The answer to this call alone; a count must be the one that calls and replies tell."""
         asked = Request(letter, a, **self.own, **lent)
         fill_unused(self.door.chance, asked)
         right = calls.answer(asked)
@@ -78,7 +100,30 @@ class Catalogue:
         self.theirs = {name: came.blocks[name] for name in TABLES}
         self.own = {name: right.blocks[name] for name in TABLES}
         self.contents.take_note(sent, came)
+        if letter == "#" and came.done():
+            self.check_count(units(lines_of_words(sent.blocks["L"])), came)
         return came
+
+    def check_count(self, row, came):
+        """A count is the number of kits, by calls and replies, that begin with the row."""
+        right, kits = self.contents.beginning_with(row), len(self.contents.kits)
+        expect(came, DONE, right, "kits that begin with %s, of %r" % (row, self.contents))
+        self.came_to(COUNTED["none"], right == 0 < kits)
+        self.came_to(COUNTED["one"], right == 1)
+        self.came_to(COUNTED["several"], 1 < right < kits)
+        self.came_to(COUNTED["all"], right == kits > 1 and row)
+
+    def count_near(self, listed):
+        """Counts the kits that begin as this list does, as a held kit does, or with a unit more."""
+        chance, parts = self.door.chance, len(self.contents.numbers)
+        rows = sorted(self.contents.kits)
+        if listed and not first_fault(listed, parts):
+            rows += [units(lines_of_words(listed))] * (1 + len(rows))
+        row = chance.pick(rows) if rows else ()
+        row = row[:chance.pick((0, 1, len(row), len(row), chance.below(len(row) + 1)))]
+        if parts and chance.one_in(5):
+            row += (chance.between(max((1, *row)), parts),)
+        self.call_on("#", row)
 
     def came_to(self, what, really=True):
         """Counts a turn that a sequence took."""

@@ -9,7 +9,9 @@ from second.lent import Request
 from second.nodes import MOST_NODES, NODE_WORDS
 from second.register import MOST_SLOTS, filled
 
-from .broken_tables import BROKEN_TABLES, LOST_NODES, RAW_PATHS, TWO_CHAINS, WRONG_LINKS
+from .broken_tables import (
+    BROKEN_TABLES, LOST_NODES, RAW_PATHS, STEM, TWO_CHAINS, WRONG_COUNTS, WRONG_LINKS)
+from .counts import by_parents, counted
 from .register_requests import with_byte
 from .short_cases import CONTAINING, DELETE, PRINTED_STEPS, SHORT_CASES, WITHIN
 from .tables import (
@@ -17,14 +19,23 @@ from .tables import (
     some_new_tag, some_row, some_tables, swapped, table)
 
 # The calls that are lent both tables and look at them, and those that take a list.
-TABLE_LETTERS = "kfdwcWCas"
-LIST_LETTERS = "kfdwcWCa"
-QUESTION_LETTERS = "wcWCa"
+TABLE_LETTERS = "kfdwcWCas#"
+LIST_LETTERS = "kfdwcWCa#"
+QUESTION_LETTERS = "wcWCa#"
 ALL_LETTERS = "e" + TABLE_LETTERS
 
 # Contents of an output before the call, so that what lies behind the answer can be seen.
 BEFORE = [61001, 61002, 61003, 61004, 61005, 61006, 61007, 61008, 61009, 61010, 61011, 61012]
 SECOND_BEFORE = [62000 + at for at in range(1, 13)]
+
+# Lengths of node tables: nothing and one word, and around one node and two; some that were right
+# while a node had six words, of which the last is right again.
+SMALL_LENGTHS = [0, 1, NODE_WORDS - 1, NODE_WORDS, NODE_WORDS + 1, 2 * NODE_WORDS - 1,
+                 2 * NODE_WORDS, 2 * NODE_WORDS + 1, 12, 18, 36, 42]
+# Around the largest table, the largest of six words a node, and the probe's room.
+LARGE_LENGTHS = [(MOST_NODES - 1) * NODE_WORDS, MOST_NODES * NODE_WORDS - 1,
+                 MOST_NODES * NODE_WORDS, MOST_NODES * NODE_WORDS + 1,
+                 (MOST_NODES + 1) * NODE_WORDS, MOST_NODES * 6, ROOM["N"]]
 
 # The longest unit row with few parts: 15 of each of four parts and 4 of a fifth.
 LONGEST_LIST = [1, 15, 2, 15, 3, 15, 4, 15, 5, 4]
@@ -54,7 +65,9 @@ def limits():
     yield from spelled_parts()
     yield from broken_tables()
     yield from broken_chains()
+    yield from wrong_counts()
     yield from raw_paths()
+    yield from old_tables()
     yield from list_limits()
     yield from insertions()
     yield from node_limits()
@@ -67,7 +80,7 @@ def limits():
 def table_lengths():
     """Node tables around one and two nodes; the longest ones are among the large requests."""
     register = parts_register(2)
-    for length in (0, 1, 5, 6, 7, 11, 12, 13):
+    for length in SMALL_LENGTHS:
         for letter in ALL_LETTERS:
             yield Request(letter, 7, R=register, N=[0] * length, L=[1, 1], **some_outputs(letter),
                           O=b"before the sheet", note="node table of %d words" % length)
@@ -85,8 +98,8 @@ def pairs_of_tables():
     """A register and a node table, each right, of wrong length, empty or not sound, with a note."""
     registers = {"right": parts_register(2), "wrong length": bytes(33), "empty": b"",
                  "not sound": bytes(32) + parts_register(1, 1)}
-    tables = {"right": [0] * 12, "wrong length": [0] * 13, "empty": [],
-              "not sound": [0, 0, 0, 0, 0, 0, 0, 0, 0, 1, 1, 1]}
+    tables = {"right": [0] * 2 * NODE_WORDS, "wrong length": [0] * (2 * NODE_WORDS + 1),
+              "empty": [], "not sound": nodes.words_of(BROKEN_TABLES["a node on no chain"])}
     for register_note, register in registers.items():
         for table_note, words in tables.items():
             yield register, words, "register %s, nodes %s" % (register_note, table_note)
@@ -133,6 +146,14 @@ def broken_chains():
                           **some_outputs(letter), O=bytes(60), note=note)
 
 
+def wrong_counts():
+    """Tables whose counts alone are wrong, for every call that looks at a table; two are sound."""
+    for note, row in {"two chains": TWO_CHAINS, "a stem": STEM, **WRONG_COUNTS}.items():
+        for letter in TABLE_LETTERS:
+            yield Request(letter, 6, R=parts_register(3), N=nodes.words_of(row), L=[1, 2],
+                          **some_outputs(letter), O=bytes(60), note=note)
+
+
 def raw_paths():
     """Paths of 64 and 65 nodes, of 15 and 16 equal labels, and labels at the parts' limit."""
     five = parts_register(5)
@@ -149,6 +170,16 @@ def raw_paths():
             yield Request(letter, 9, R=parts_register(parts, slots), N=raw_path((2,)), L=[],
                           **some_outputs(letter), O=bytes(60),
                           note="label 2 beside %d parts in %d slots" % (parts, slots))
+
+
+def old_tables():
+    """Tables of six words a node, sound before request 7, whose length is right all the same."""
+    for kits in ([], [((), 3)], [((1,), 4), ((1, 2), 9), ((2, 2, 2), 1)]):
+        words = [word for node in nodes.nodes_of(table(7, *kits)) for word in node[:-1]]
+        for letter in TABLE_LETTERS:
+            yield Request(letter, 6, R=parts_register(2), N=words, L=[1, 1],
+                          **some_outputs(letter), O=bytes(60),
+                          note="7 nodes of six words, %d kits" % len(kits))
 
 
 def list_limits():
@@ -172,13 +203,13 @@ def list_limits():
         yield Request("k", 0, R=three, N=words, L=listed, note="tag 0 and list %s" % listed)
     for listed in ([], [1, 1], [1, 0], [0, 0], [1]):
         for letter in LIST_LETTERS:
-            yield Request(letter, 5, R=parts_register(0, 1), N=[0] * 12, L=listed,
+            yield Request(letter, 5, R=parts_register(0, 1), N=[0] * 2 * NODE_WORDS, L=listed,
                           **some_outputs(letter), note="no parts, list %s" % listed)
     five = parts_register(5)
     for listed in (LONGEST_LIST, TOO_LONG_LIST, [1, 15, 2, 15, 3, 15, 4, 15, 5, 15]):
         held = table(70, (units(lines_of_words(LONGEST_LIST)), 12))
         for letter in LIST_LETTERS:
-            for words in ([0] * 6, [0] * 65 * NODE_WORDS, held):
+            for words in ([0] * NODE_WORDS, [0] * 65 * NODE_WORDS, held):
                 yield Request(letter, 12, R=five, N=words, L=listed, **some_outputs(letter),
                               note="%s %d units" % ("insert" if letter == "k" else "ask for",
                                                     sum(listed[1::2])))
@@ -311,6 +342,17 @@ def swept(letters, words, listed, places, room, note):
                    **some_outputs(letter, places), O=bytes(room), note=note)
 
 
+def with_counts_right(before, words):
+    """A changed table as it is, and with its counts set right where that is yet another one.
+
+    Else the counts would show nearly every change of a link or a tag.
+    """
+    yield words
+    right = nodes.words_of(counted(nodes.nodes_of(words), by_parents))
+    if right not in (before, words):
+        yield right
+
+
 def swept_words(letters):
     """Each word of a small table set to each of many values."""
     words = list(example_words())
@@ -318,8 +360,9 @@ def swept_words(letters):
     for at, word in enumerate(words):
         values = set(range(count + 2)) | {word + 1, (word - 1) % 65536, 5, 10, 64, 65, 65535}
         for value in sorted(values - {word}):
-            changed = words[:at] + [value] + words[at + 1:]
-            yield swept(letters, changed, [1, 1, 2, 1], 9, 80, "word %d set to %d" % (at, value))
+            for changed in with_counts_right(words, words[:at] + [value] + words[at + 1:]):
+                yield swept(letters, changed, [1, 1, 2, 1], 9, 80,
+                            "word %d set to %d" % (at, value))
 
 
 def swept_pairs(letters):
@@ -332,8 +375,9 @@ def swept_pairs(letters):
                     continue
                 changed = list(tiny)
                 changed[first], changed[second] = one, two
-                yield swept(letters, changed, [2, 1], 3, 60, "words %d and %d set to %d and %d" % (
-                    first, second, one, two))
+                for words in with_counts_right(tiny, changed):
+                    yield swept(letters, words, [2, 1], 3, 60,
+                                "words %d and %d set to %d and %d" % (first, second, one, two))
 
 
 def moved_nodes(letters):
@@ -341,8 +385,8 @@ def moved_nodes(letters):
     example = nodes.nodes_of(example_words())
     for one, other in product(range(len(example)), repeat=2):
         for changed in (swapped(example, one, other), copied(example, one, other)):
-            yield swept(letters, nodes.words_of(changed), [1, 1, 3, 1], 9, 80,
-                        "nodes %d and %d" % (one, other))
+            for words in with_counts_right(list(example_words()), nodes.words_of(changed)):
+                yield swept(letters, words, [1, 1, 3, 1], 9, 80, "nodes %d and %d" % (one, other))
 
 
 def swept_slots():
@@ -356,8 +400,7 @@ def large():
     """Tables of 4,096 nodes and one more, chains of 255 siblings, long lists, long outputs."""
     yield from long_lists()
     full = parts_register(MOST_SLOTS, MOST_SLOTS)
-    for length in (MOST_NODES * NODE_WORDS, MOST_NODES * NODE_WORDS + 1,
-                   (MOST_NODES + 1) * NODE_WORDS, (MOST_NODES - 1) * NODE_WORDS, ROOM["N"]):
+    for length in LARGE_LENGTHS:
         for letter in ALL_LETTERS:
             yield Request(letter, 7, R=parts_register(2), N=[0] * length, L=[1, 2],
                           **some_outputs(letter), O=bytes(60), note="%d words" % length)

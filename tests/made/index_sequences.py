@@ -6,7 +6,7 @@ from run.door import Different
 from second import index, nodes, sheet
 from second.kits import MOST_QUANTITY, MOST_UNITS, beginnings, lines_of_words, units
 from second.nodes import MOST_NODES
-from second.refusals import DONE, NO_ROOM
+from second.refusals import ALREADY_HELD, DONE, NO_ROOM, NOT_HELD, TAG_TAKEN
 from second.register import MOST_SLOTS
 
 from .carried import empty_catalogue, expect
@@ -27,9 +27,10 @@ TRIES = 12
 
 
 def fixed(door):
-    """The deletions of the document's short cases, and the last free node."""
+    """The deletions of the document's short cases, the last free node, counts at every step."""
     short_deletions(door)
     last_free_node(door)
+    counts_by_hand(door)
 
 
 def with_parts(catalogue, parts):
@@ -79,6 +80,40 @@ def last_free_node(door):
     ]
     for letter, row, tag, number, value in calls:
         expect(catalogue.call_on(letter, row, tag), number, value, "%s %s" % (letter, row))
+
+
+# Calls in a table of six nodes, each with its answer, and the counts behind it for the rows below.
+COUNTED_ROWS = [(), (1,), (1, 1), (1, 1, 2), (1, 2), (2,), (3,)]
+COUNTED_CALLS = [
+    ("k", (1, 1, 2), 7, DONE, 3, [1, 1, 1, 1, 0, 0, 0]),
+    ("k", (1,), 9, DONE, 0, [2, 2, 1, 1, 0, 0, 0]),
+    ("k", (1,), 8, ALREADY_HELD, 9, [2, 2, 1, 1, 0, 0, 0]),
+    ("k", (), 5, DONE, 0, [3, 2, 1, 1, 0, 0, 0]),
+    ("k", (1, 2), 7, TAG_TAKEN, 0, [3, 2, 1, 1, 0, 0, 0]),
+    ("k", (1, 2), 6, DONE, 1, [4, 3, 1, 1, 1, 0, 0]),
+    ("k", (2, 2), 4, NO_ROOM, 1, [4, 3, 1, 1, 1, 0, 0]),
+    ("k", (3,), 4, DONE, 1, [5, 3, 1, 1, 1, 0, 1]),
+    ("d", (1, 1), 0, NOT_HELD, 0, [5, 3, 1, 1, 1, 0, 1]),
+    ("d", (1, 1, 2), 0, DONE, 7, [4, 2, 0, 0, 1, 0, 1]),
+    ("d", (1,), 0, DONE, 9, [3, 1, 0, 0, 1, 0, 1]),
+    ("k", (2, 2), 7, DONE, 2, [4, 1, 0, 0, 1, 1, 1]),
+    ("d", (), 0, DONE, 5, [3, 1, 0, 0, 1, 1, 1]),
+    ("d", (1, 2), 0, DONE, 6, [2, 0, 0, 0, 0, 1, 1]),
+    ("d", (3,), 0, DONE, 4, [1, 0, 0, 0, 0, 1, 0]),
+    ("d", (2, 2), 0, DONE, 7, [0, 0, 0, 0, 0, 0, 0]),
+]
+
+
+def counts_by_hand(door):
+    """Kits that come and go, and behind each call the counts for the same rows."""
+    catalogue = empty_catalogue(door, 3, 6)
+    with_parts(catalogue, 3)
+    for letter, row, tag, number, value, counts in COUNTED_CALLS:
+        what = "%s %s" % (letter, row)
+        expect(catalogue.call_on(letter, row, tag), number, value, what)
+        for counted, right in zip(COUNTED_ROWS, counts):
+            expect(catalogue.call_on("#", counted), DONE, right,
+                   "behind %s, kits that begin with %s" % (what, counted))
 
 
 # A kind of sequence: how many parts and nodes, how many calls, and what rows are entered.
@@ -273,9 +308,12 @@ def full_table(door):
 
 
 def bring_on(catalogue, kind):
-    """Makes the calls of a sequence of this kind, and then holds the tables against them."""
+    """Makes the calls of a sequence of this kind, and then holds the tables against them.
+
+    Behind each of them there is one that counts.
+    """
     steps = Steps(catalogue, kind, catalogue.door.chance)
-    last = catalogue.door.calls + kind.calls
+    last = catalogue.door.calls + 2 * kind.calls
     while catalogue.door.calls < last:
         steps.step()
     catalogue.check_contents()

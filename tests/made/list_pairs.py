@@ -1,8 +1,8 @@
 """Pairs of lists, and the calls that show of them all that document 01 says of kits and bins.
 
 A list's check and its units show where it is inserted; its quantities by what kits lack beside it;
-how two rows stand to each other by what one adds to the other, by the sheet of both and by reading
-the two as records; inclusion by the questions.
+how two rows stand to each other by what one adds to the other, by whether one begins the other, by
+the sheet of both and by reading the two as records; inclusion by the questions.
 """
 
 from functools import lru_cache
@@ -177,7 +177,10 @@ def bins(parts, listed):
 
 
 def beside(parts, held, other):
-    """A list held as a kit: whether it is within the other or contains it; what the other adds."""
+    """A list held as a kit: whether it is within the other, contains it or begins with it.
+
+    And what the other adds to it.
+    """
     row = units(held)
     if len(row) > MOST_UNITS:
         return
@@ -185,6 +188,7 @@ def beside(parts, held, other):
             "L": words_of(other), "note": "%s held, asked for %s" % (held, other)}
     yield Request("W", P=[0], **lent)
     yield Request("C", P=[0], **lent)
+    yield Request("#", **lent)
     yield Request("k", TAGS[1], **lent)
 
 

@@ -1,30 +1,35 @@
 """Node tables, right and damaged, each with its kind, and the calls that show a verdict on it.
 
 An insertion of many units shows whether the table is sound, by 2 or another answer, and then by
-12 or the table how many of its nodes are free.
+12 or the table how many of its nodes are free. The count for the empty list shows the root's word.
 """
 
 from collections import namedtuple
 from itertools import count, islice
 
 from second.lent import Request
-from second.nodes import MOST_NODES, NODE_WORDS
+from second.nodes import NODE_WORDS, nodes_of, words_of
 from second.refusals import NOT_SOUND, WRONG_LENGTH
 from second.register import MOST_SLOTS, numbers_of
 
 from . import index_requests
 from .chance import Chance
-from .index_requests import LONGEST_LIST
+from .counts import by_chains, counted
+from .index_requests import LARGE_LENGTHS, LONGEST_LIST, SMALL_LENGTHS
 from .reached import SOUND, TABLE, UNSOUND, VERDICT, WRONG
-from .tables import EDGE_WORDS, LARGE_KINDS, Stock, large_table, parts_register, raw_path, table
+from .tables import (
+    EDGE_WORDS, LARGE_KINDS, Stock, counted_again, large_table, miscounted, parts_register,
+    raw_path, table)
 
 # The kinds of tables, and the verdicts that each must get.
 LENGTHS, BROKEN, CHAINS, PATHS = "lengths", "broken tables", "broken chains", "paths"
 SIBLINGS, SWEPT, BY_CHANCE = "255 siblings", "words changed one by one", "by chance"
+COUNTS, MISCOUNTED = "wrong counts", "counts changed by chance"
 LARGE = "4,096 nodes, %s"
 VERDICTS = {
     LENGTHS: {SOUND, UNSOUND, WRONG}, BROKEN: {SOUND, UNSOUND}, CHAINS: {SOUND, UNSOUND},
-    PATHS: {SOUND, UNSOUND}, SIBLINGS: {SOUND, UNSOUND}, SWEPT: {SOUND, UNSOUND},
+    COUNTS: {SOUND, UNSOUND}, PATHS: {SOUND, UNSOUND}, SIBLINGS: {SOUND, UNSOUND},
+    SWEPT: {SOUND, UNSOUND}, MISCOUNTED: {UNSOUND},
     **{LARGE % kind: {SOUND, UNSOUND} for kind in LARGE_KINDS}, BY_CHANCE: {SOUND, UNSOUND},
 }
 
@@ -53,11 +58,12 @@ def tables_of(kind, row):
 
 def limits():
     """Lengths, one table for each way to break a condition alone, paths at their limits."""
-    for length in (0, 1, 5, 6, 7, 11, 12, 13, 18):
+    for length in SMALL_LENGTHS:
         yield Table(LENGTHS, 2, range(3), [0] * length)
         yield Table(LENGTHS, 0, range(1), [1] * length)
     yield from tables_of(BROKEN, index_requests.broken_tables())
     yield from tables_of(CHAINS, index_requests.broken_chains())
+    yield from tables_of(COUNTS, index_requests.wrong_counts())
     yield from tables_of(PATHS, index_requests.raw_paths())
     # every number of parts, and labels beyond a byte
     yield Table(PATHS, MOST_SLOTS, range(MOST_SLOTS + 1), raw_path((1, 2)))
@@ -70,6 +76,7 @@ def limits():
         changed = list(siblings)
         changed[at * NODE_WORDS + 2] = link
         yield around(SIBLINGS, MOST_SLOTS, changed)
+        yield around(SIBLINGS, MOST_SLOTS, words_of(counted(nodes_of(changed), by_chains)))
 
 
 def damaged(chance, words, times):
@@ -81,7 +88,7 @@ def damaged(chance, words, times):
             0, words[at] + 1, max(0, words[at] - 1), chance.pick(words),
             chance.below(len(words) // NODE_WORDS + 1), chance.pick(EDGE_WORDS),
             chance.below(65536))) % 65536
-    return words
+    return counted_again(chance, words)
 
 
 def by_chance(chance):
@@ -89,33 +96,50 @@ def by_chance(chance):
     stock = Stock(chance)
     while True:
         register, words, _ = stock.catalogue()
-        yield around(BY_CHANCE, len(numbers_of(register)),
-                     damaged(chance, words, chance.pick((0, 1, 1, 1, 2, 3))))
+        parts = len(numbers_of(register))
+        yield around(BY_CHANCE, parts, damaged(chance, words, chance.pick((0, 1, 1, 1, 2, 3))))
+
+
+def with_wrong_counts(chance):
+    """A table brought on in the same way, in which counts alone are changed."""
+    stock = Stock(chance)
+    while True:
+        register, words, _ = stock.catalogue()
+        parts = len(numbers_of(register))
+        yield Table(MISCOUNTED, parts, [parts], miscounted(chance, words))
 
 
 def large(chance, damages):
-    """Tables of 4,096 nodes, whole and with damage; one node more, and one word more."""
-    for extra in (-1, 0, 1, NODE_WORDS, 2 * NODE_WORDS):
-        yield Table(LENGTHS, 1, range(2), [0] * (MOST_NODES * NODE_WORDS + extra))
+    """Tables of 4,096 nodes, whole, with damage and with wrong counts; lengths around them."""
+    for length in LARGE_LENGTHS:
+        yield Table(LENGTHS, 1, range(2), [0] * length)
     for kind in LARGE_KINDS:
         words = list(large_table(kind))
         yield around(LARGE % kind, MOST_SLOTS, words)
         for _ in range(damages):
             changed = damaged(chance, words, chance.pick((1, 1, 2)))
             yield Table(LARGE % kind, MOST_SLOTS, [MOST_SLOTS], changed)
+            yield Table(MISCOUNTED, MOST_SLOTS, [MOST_SLOTS], miscounted(chance, words))
 
 
 def everything(seed, wanted, damages):
-    """All fixed tables, large ones with so much damage, and so many by chance."""
+    """All fixed tables, large ones with so much damage, so many by chance, and half as many of
+    which the counts alone are wrong."""
     chance = Chance(seed)
     yield from limits()
     yield from tables_of(SWEPT, index_requests.sweeps())
     yield from large(chance, damages)
     yield from islice(by_chance(chance), wanted)
+    yield from islice(with_wrong_counts(chance), wanted // 2)
 
 
 def requests_of(asked):
-    """For each number of parts an insertion of many units, with a tag that no node bears."""
+    """For each number of parts an insertion of many units, with a tag that no node bears.
+
+    Beside its own number of parts also the count for the empty list.
+    """
+    yield asked.own, Request("#", R=parts_register(asked.own, max(1, asked.own)), N=asked.words,
+                             note="%s, all kits counted" % asked.kind)
     taken = set(asked.words)
     tag = next(tag for tag in count(FIRST_TAG) if tag not in taken)
     for parts in asked.parts:

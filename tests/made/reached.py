@@ -84,6 +84,7 @@ NUMBERS = {
     "W": TABLES | LIST | {NO_ROOM},
     "C": TABLES | LIST | {NO_ROOM},
     "a": TABLES | LIST | {NO_ROOM, TOO_FAR_SHORT},
+    "#": TABLES | LIST,
     "s": TABLES | {NO_ROOM},
     "r": {DONE, WRONG_LENGTH, NO_ROOM, SHEET_AT_FAULT},
 }
@@ -184,6 +185,11 @@ LACKED_ONE_NODE = "insertions lacked one node"
 ENTERED_AGAIN = "kits struck out were entered again"
 ALMOST_FILLED = "listings had kits almost filled"
 BROUGHT_IN = "numbers that sheets alone bring in were registered and looked up"
+# Counts by how many of the kits held they tell, and the calls that they are asked behind.
+COUNTED = {"none": "counts of no kit", "one": "counts of one kit",
+           "several": "counts of several kits and not all", "all": "counts of all kits by a list"}
+COUNTED_BEHIND = {**{letter: "kits counted behind an accepted " + letter for letter in "epkdr"},
+                  None: "kits counted behind a refusal"}
 ENDED_ALIKE = "pairs ended alike"
 ENDED_APART = "pairs ended apart"
 SEQUENCES = "sequences"
@@ -193,7 +199,7 @@ def sequences_reached():
     """What sequences of calls come to."""
     numbers = {letter: row - {WRONG_LENGTH, NOT_SOUND} for letter, row in NUMBERS.items()}
     turns = {TOOK_LAST_NODE, LACKED_ONE_NODE, ENTERED_AGAIN, ALMOST_FILLED, BROUGHT_IN, ENDED_ALIKE,
-             ENDED_APART}
+             ENDED_APART, *COUNTED.values(), *COUNTED_BEHIND.values()}
     return Reached(answers(numbers) | {(SEQUENCES, turn) for turn in turns})
 
 

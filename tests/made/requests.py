@@ -3,7 +3,8 @@
 from run.frame import COUNT, REQUEST_HEAD, ROOM, element_bytes, pack_request
 from second.lent import REQUEST_BLOCKS, WORD_BLOCKS, Request
 
-from . import almost_requests, index_requests, register_requests, sheet_requests
+from . import (
+    almost_requests, count_requests, index_requests, register_requests, sheet_requests)
 from .chance import Chance
 
 # Who makes the requests of each letter by chance. Each maker's fixed requests are its limits
@@ -12,13 +13,14 @@ MAKERS = [
     ("pln", register_requests),
     ("ekfdwcWC", index_requests),
     ("a", almost_requests),
+    ("#", count_requests),
     ("sr", sheet_requests),
 ]
 
 # The blocks that each call uses; it must leave the others as they are.
 USES = {
     "e": "RN", "p": "RI", "l": "RI", "n": "RO", "k": "RNL", "f": "RNL", "d": "RNL", "w": "RNL",
-    "c": "RNL", "W": "RNLP", "C": "RNLP", "a": "RNLPQ", "s": "RNO", "r": "RNI",
+    "c": "RNL", "W": "RNLP", "C": "RNLP", "a": "RNLPQ", "#": "RNL", "s": "RNO", "r": "RNI",
 }
 
 # The calls that use argument A; none uses B yet.

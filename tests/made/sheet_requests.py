@@ -77,7 +77,7 @@ def written_rooms():
     catalogues = [
         ("empty", filled([], 1), [0] * NODE_WORDS),
         ("the empty kit", filled([], 2), table(1, ((), 65535))),
-        ("parts alone", filled(THREE, 4), [0] * 12),
+        ("parts alone", filled(THREE, 4), [0] * 2 * NODE_WORDS),
         ("two spellings", filled([b"74ls00", b"74LS00"], 2), table(3, ((2,), 5), ((1,), 9))),
         ("printed", filled(THREE, 4), table(5, ((2,), 5), ((1,), 9))),
         ("long numbers", filled([b"A" * LONGEST_NUMBER, b"B"], 2), table(2, ((2,), 256))),
@@ -236,13 +236,16 @@ def room_for_reading():
         yield reading(sheet_of([], []), slots, node_count, "the empty sheet")
         yield reading(sheet_of([b"A"], [record(1)]), slots, node_count, "the empty kit")
         yield reading(sheet_of([b"A"], [record(1, (1, 1))]), slots, node_count, "one node")
-    for register_length, table_length in ((0, 6), (31, 6), (32, 0), (32, 7), (33, 7), (32, 5)):
+    for register_length, table_length in ((0, NODE_WORDS), (31, NODE_WORDS), (32, 0),
+                                          (32, NODE_WORDS + 1), (33, NODE_WORDS + 1),
+                                          (32, NODE_WORDS - 1)):
         for sheet_bytes in (data, faulty, b""):
             yield Request("r", R=bytes(register_length), N=[0] * table_length, I=sheet_bytes,
                           note="%d register bytes, %d words" % (register_length, table_length))
     longest = MOST_SLOTS * SLOT_BYTES
     for length in (longest, longest + 1, longest + SLOT_BYTES):
-        yield Request("r", R=bytes(length), N=[0] * 42, I=data, note="%d register bytes" % length)
+        yield Request("r", R=bytes(length), N=[0] * 7 * NODE_WORDS, I=data,
+                      note="%d register bytes" % length)
 
 
 def old_contents():

@@ -204,7 +204,7 @@ class Walk:
         self.catalogue.call(letter, tag, L=listed)
 
     def take_list(self, letter):
-        """A held kit's list, one near it, or one at fault: found or struck out."""
+        """A held kit's list, one near it, or one at fault: found, struck out or counted."""
         self.catalogue.call(letter, L=self.some_list())
 
     def question(self, letter):
@@ -293,12 +293,12 @@ class Walk:
 
 
 # The letters of a stray call, and how each is made.
-STRAY_LETTERS = "pppplnkkkkkkkkffdddwcWCaasrr" * 2 + "e"
+STRAY_LETTERS = "pppplnkkkkkkkkffdddwcWCaa#srr" * 2 + "e"
 WAYS = {
     "e": Walk.empty, "p": Walk.register, "l": Walk.look_up, "n": Walk.show, "k": Walk.insert,
     "f": Walk.take_list, "d": Walk.take_list, "w": Walk.question, "c": Walk.question,
-    "W": Walk.question, "C": Walk.question, "a": Walk.almost_filled, "s": Walk.write,
-    "r": Walk.read,
+    "W": Walk.question, "C": Walk.question, "a": Walk.almost_filled, "#": Walk.take_list,
+    "s": Walk.write, "r": Walk.read,
 }
 
 
@@ -321,6 +321,7 @@ def brought_to(door, size, aim):
     catalogue.check_contents()
     ask_for_parts(catalogue)
     list_all(catalogue)
+    count_all(catalogue)
     return catalogue
 
 
@@ -343,6 +344,17 @@ def list_all(catalogue):
     if listed != [(tag, len(row)) for row, tag in kits]:
         raise Different(["tags and shortfalls %s beside a bin of nothing; by calls and replies" %
                          listed, "  %r" % catalogue.contents])
+
+
+def count_all(catalogue):
+    """Every kit begins with nothing, and every one but the empty kit with just one part."""
+    kits = catalogue.contents.kits
+    expect(catalogue.call_on("#", ()), DONE, len(kits), "all kits counted")
+    places = range(1, len(catalogue.contents.numbers) + 1)
+    counts = [catalogue.call_on("#", (place,)).value for place in places]
+    if sum(counts) != len(kits) - (() in kits):
+        raise Different(["kits by the part that they begin with: %s; by calls and replies" % counts,
+                         "  %r" % catalogue.contents])
 
 
 def wander(walk, calls):

@@ -53,3 +53,31 @@ ALMOST_CASES = [
     # behind a branch that lacks too much there is one that does not
     ([(1, 1, 1), (1, 2), (2, 2)], (2,), 1, [((1, 2), 1), ((2, 2), 1)]),
 ]
+
+# Kits that begin with a list, worked out by hand: the kits held, the list's units, how many.
+COUNT_CASES = [
+    ([], (), 0),
+    ([], (1,), 0),
+    ([()], (), 1),
+    ([()], (1,), 0),
+    ([(1,)], (), 1),
+    ([(1,)], (1,), 1),
+    ([(1,)], (2,), 0),
+    # past a leaf, by the same part and by another
+    ([(1,)], (1, 1), 0),
+    ([(1,)], (1, 2), 0),
+    # a beginning that is no kit, and one of which another kit has only a part
+    ([(1, 1, 2)], (1,), 1),
+    ([(1, 1, 2)], (1, 1), 1),
+    ([(1, 1, 2)], (1, 2), 0),
+    ([(1, 1, 2), (1, 1, 3), (1, 2)], (1, 1), 2),
+    ([(1, 1, 2), (1, 1, 3), (1, 2)], (1,), 3),
+    # a kit and those that go on from it; what it contains elsewhere than at its front is none
+    ([(1,), (1, 1), (1, 1, 1), (2,)], (1,), 3),
+    ([(1,), (1, 1), (1, 1, 1), (2,)], (1, 1), 2),
+    ([(1,), (1, 1), (1, 1, 1), (2,)], (), 4),
+    ([(), (1, 2, 3), (2,), (2, 3)], (2,), 2),
+    ([(), (1, 2, 3), (2,), (2, 3)], (3,), 0),
+    ([(), (1, 2, 3), (2,), (2, 3)], (), 4),
+    ([(), (1, 2, 3), (2,), (2, 3)], (1, 2, 3), 1),
+]

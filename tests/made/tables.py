@@ -4,10 +4,11 @@ import functools
 
 from second import index, nodes
 from second.kits import MOST_QUANTITY, MOST_UNITS
-from second.nodes import FREE, MOST_NODES, NODE_WORDS, ROOT, Node
+from second.nodes import DEEPEST, FREE, MOST_NODES, NODE_WORDS, ROOT, Node
 from second.register import MOST_SLOTS, filled, numbers_of
 
 from .chance import Chance
+from .counts import by_chains, by_parents, counted
 from .register_requests import damaged_register, many_numbers, some_numbers
 
 # Values that a damaged word is often given: limits of depth, quantity, parts and words.
@@ -26,10 +27,10 @@ def table(node_count, *kits):
 
 def raw_path(labels, tag=1, spare=0):
     """A table whose one path has these labels, set down word by word."""
-    row = [Node(0, 1 if labels else 0, 0, 0, 0, 0 if labels else tag)]
+    row = [Node(0, 1 if labels else 0, 0, 0, 0, 0 if labels else tag, 1)]
     for at, label in enumerate(labels, start=1):
         last = at == len(labels)
-        row.append(Node(at - 1, 0 if last else at + 1, 0, label, at, tag if last else 0))
+        row.append(Node(at - 1, 0 if last else at + 1, 0, label, at, tag if last else 0, 1))
     return nodes.words_of(row + [FREE] * spare)
 
 
@@ -121,7 +122,7 @@ def long_paths(chance, node_count):
         index.enter(words, row, tag)
         free -= min(held, free)
         tag += 1
-    return nodes.words_of(words)
+    return nodes.words_of(nodes.counted(words))
 
 
 class Stock:
@@ -192,22 +193,63 @@ def some_row(chance, rows, parts):
     return tuple(row)
 
 
+def upwards(row, at):
+    """The numbers from a node up to the root; in a damaged table no more than a path may have."""
+    passed = [at]
+    while passed[-1] != ROOT and len(passed) <= DEEPEST:
+        passed.append(row[passed[-1]].parent % len(row))
+    return passed
+
+
+def miscounted(chance, words):
+    """The table with counts alone changed: one, two whose sum stays, or those of a whole path."""
+    row = nodes.nodes_of(words)
+    one, other = chance.below(len(row)), chance.below(len(row))
+    more = chance.pick((1, 1, 65535, 65535, 2, 256, 32768, chance.between(1, 65535)))
+    way = chance.below(5)
+    changes = [(one, more)]
+    if way == 0 and one != other:
+        changes.append((other, 65536 - more))
+    elif way == 1:
+        changes = [(at, more) for at in upwards(row, one)]
+    elif way == 2:
+        changes = [(one, 65535 - row[one].tagged)]
+    elif way == 3:
+        changes = [(ROOT, more)]
+    for at, change in changes:
+        row[at] = row[at]._replace(tagged=(row[at].tagged + change) % 65536)
+    return nodes.words_of(row)
+
+
+def counted_again(chance, words):
+    """The table as it is, or with its counts set right, so that other damage has to be found."""
+    way = chance.pick((None, by_parents, by_chains))
+    return nodes.words_of(counted(nodes.nodes_of(words), way)) if way else words
+
+
 def damaged_table(chance, words, parts):
     """The table with a few words, a node or the length changed, which may leave it sound."""
     words = list(words)
-    count = len(words) // NODE_WORDS
-    way = chance.below(12)
+    way = chance.below(14)
     if way == 0:
         return words[:chance.below(len(words) + 1)]
     if way == 1:
-        return words + [0] * chance.pick((1, 5, 6, 7))
-    row = nodes.nodes_of(words)
+        return words + [0] * chance.pick((1, NODE_WORDS - 1, NODE_WORDS, NODE_WORDS + 1))
+    if way in (2, 3):
+        return miscounted(chance, words)
+    return counted_again(chance, with_damage(chance, words, parts))
+
+
+def with_damage(chance, words, parts):
+    """The table with a node moved, doubled or freed, or more often with a few words changed."""
+    row, count = nodes.nodes_of(words), len(words) // NODE_WORDS
     taken = nodes.used_numbers(row)
-    if way == 2:
+    way = chance.below(10)
+    if way == 0:
         return nodes.words_of(swapped(row, chance.pick(taken), chance.below(count)))
-    if way == 3:
+    if way == 1:
         return nodes.words_of(copied(row, chance.pick(taken), chance.below(count)))
-    if way == 4:
+    if way == 2:
         row[chance.pick(taken)] = FREE
         return nodes.words_of(row)
     for _ in range(chance.pick((1, 1, 1, 2, 3))):

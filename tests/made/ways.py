@@ -3,15 +3,17 @@
 Each takes a request and its right answer, and gives the ways by name with whether this was one.
 """
 
-from second import index, register, sheet
+from second import index, nodes, questions, register, sheet
 from second.calls import MOST_SHORT
-from second.kits import LEAST_QUANTITY, MOST_QUANTITY, MOST_UNITS, first_fault
-from second.nodes import MOST_NODES, NODE_WORDS
+from second.kits import (
+    LEAST_QUANTITY, MOST_QUANTITY, MOST_UNITS, beginnings, first_fault, lines_of_words, units)
+from second.nodes import FREE, MOST_NODES, NODE_WORDS, NONE, ROOT
 from second.refusals import (
     BAD_NUMBER, BAD_ORDER, BAD_QUANTITY, BEYOND_PARTS, NO_ROOM, NOT_HELD, NOT_SOUND,
     PUNCTUATION_AT_END, SHEET_AT_FAULT, TAG_ZERO, TOO_FAR_SHORT, TOO_MANY_UNITS, WRONG_LENGTH)
 from second.register import LONGEST_NUMBER, PUNCTUATION, SLOT_BYTES
 
+from .counts import by_parents, counted
 from .register_requests import BESIDE_LETTERS
 from .sheet_requests import PRINTED_SHEET
 
@@ -50,6 +52,35 @@ def tables_lent(asked, came):
         "nodes that are not sound": unsound and register.sound(register_bytes),
         "sound tables": not wrong and not unsound,
         TORN_PART: not wrong and not unsound and has_torn_part(register_bytes),
+    }
+
+
+def wrong_counts(asked, came):
+    """Where and how counts are wrong in a table that is refused for nothing else."""
+    given, right = [], []
+    if came.number == NOT_SOUND and register.sound(asked.blocks["R"]):
+        given = nodes.nodes_of(asked.blocks["N"])
+        right = counted(given, by_parents)
+        if not nodes.sound(nodes.words_of(right), len(register.numbers_of(asked.blocks["R"]))):
+            given, right = [], []
+    wrong = [at for at, node in enumerate(right) if node != given[at]]
+    alone = wrong[0] if len(wrong) == 1 else None
+    free = [at for at in wrong if at != ROOT and right[at] == FREE]
+    leaves = [at for at in wrong if at not in free and right[at].first_child == NONE]
+    return {
+        "a wrong count at the root alone": alone == ROOT,
+        "a wrong count at a leaf alone": alone in leaves and alone != ROOT,
+        "a wrong count in the middle alone": alone and alone not in leaves + free,
+        "a count at a free node alone": alone in free,
+        "a count too high": any(given[at].tagged > right[at].tagged for at in wrong),
+        "a count too low": any(given[at].tagged < right[at].tagged for at in wrong),
+        "a count of 65,535": any(given[at].tagged == 65535 for at in wrong),
+        "a count whose low byte is right": any(
+            (given[at].tagged - right[at].tagged) % 256 == 0 for at in wrong),
+        "wrong counts below a right root": len(wrong) > 1 and ROOT not in wrong and not free,
+        "a wrong leaf, and its parent by as much": any(
+            given[at].tagged - right[at].tagged == given[right[at].parent].tagged
+            - right[right[at].parent].tagged for at in leaves if at != ROOT),
     }
 
 
@@ -261,6 +292,33 @@ def almost_filled(asked, came):
     }
 
 
+def kits_counted(asked, came):
+    """How many kits begin with the list, and how it stands to them."""
+    words, done = asked.blocks["N"], came.done()
+    held = nodes.held_kits(words) if done and words else {}
+    row = units(lines_of_words(asked.blocks["L"])) if done else ()
+    none, some = done and came.value == 0, done and came.value > 0
+    return {
+        "nothing held": none and not held,
+        "no kit counted": none and held,
+        "one kit counted": some and came.value == 1,
+        "several kits counted": some and 1 < came.value < len(held),
+        "all kits counted": some and row and came.value == len(held) > 1,
+        "all kits counted by the empty list": some and not row and came.value == len(held) > 1,
+        "64 units counted": some and len(row) == MOST_UNITS,
+        "64 units that no kit has": none and held and len(row) == MOST_UNITS,
+        "65 units": none and held and len(row) == MOST_UNITS + 1,
+        "a beginning that is no kit": some and row not in held,
+        "a kit that begins others": some and row in held and came.value > 1,
+        "a kit that begins no other": some and row in held and came.value == 1,
+        "a list past a leaf": none and any(
+            kit in held and questions.beginning_with(held, kit) == 1
+            for kit in beginnings([row[:-1]])),
+        "a list beside a path": none and held and len(row) > 1 and questions.beginning_with(
+            held, row[:-1]) > 1,
+    }
+
+
 def sheet_read(asked, came):
     """Slots and nodes just enough and one too few; the printed sheet cut short, or with more."""
     slots = len(asked.blocks["R"]) // SLOT_BYTES
@@ -301,25 +359,28 @@ def numbers_read(asked, came):
 
 
 # The limits of documents 01 and 02, as ways of each call.
+BOTH_TABLES = [tables_lent, wrong_counts]
+AND_LIST = [*BOTH_TABLES, list_given]
 LIMITS = {
     "e": [emptied], "p": [number_given, letters_given, registered, ends_refused],
     "l": [number_given, letters_given, looked_up], "n": [place_given],
-    "k": [tables_lent, list_given, entered], "f": [tables_lent, list_given],
-    "d": [tables_lent, list_given, struck_out], "w": [tables_lent, list_given, first_found],
-    "c": [tables_lent, list_given, first_found], "W": [tables_lent, list_given, output_into("P")],
-    "C": [tables_lent, list_given, output_into("P")], "a": [tables_lent, list_given, almost_filled],
-    "s": [tables_lent, output_into("O")], "r": [sheet_read, numbers_read],
+    "k": [*AND_LIST, entered], "f": AND_LIST, "d": [*AND_LIST, struck_out],
+    "w": [*AND_LIST, first_found], "c": [*AND_LIST, first_found],
+    "W": [*AND_LIST, output_into("P")], "C": [*AND_LIST, output_into("P")],
+    "a": [*AND_LIST, almost_filled], "#": [*AND_LIST, kits_counted],
+    "s": [*BOTH_TABLES, output_into("O")], "r": [sheet_read, numbers_read],
 }
 # Those that take large requests too, each of the calls that have the way beside it.
 LARGE = {tables_lent: largest_lent, list_given: line_at_fault}
 ALL_WAYS = {letter: ways + [LARGE[way] for way in ways if way in LARGE]
             for letter, ways in LIMITS.items()}
 # Of these the stored run has all: with more of them it would be another one.
-STORED_WAYS = {"e": [emptied], "a": [almost_filled]}
+STORED_WAYS = {"e": [emptied], "a": [almost_filled], "#": [wrong_counts, kits_counted]}
 # Ways that requests by chance hardly ever go.
 LEFT_TO_LIMITS = {
     "a kit of 64 units", "a kit of 65 units", "a shortfall of 64", "bytes behind the end",
     "d 64 done", "d 65,535 refused", "line 40 at fault", "line 127 at fault",
     "line 256 of 4,000 at fault", "two lines at fault, and the first is said",
     "an odd list of 8,191 numbers", "an odd list with a line at fault before",
+    "64 units counted", "64 units that no kit has", "65 units",
 }

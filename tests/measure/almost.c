@@ -18,7 +18,7 @@
 #include <stdlib.h>
 #include <string.h>
 
-enum { NODE_WORDS = 6, MOST_NODES = 4096, PLACES = 256, MOST_SHORT = 64 };
+enum { MOST_NODES = 4096, PLACES = 256, MOST_SHORT = 64 };
 
 typedef struct {
     uint32_t count;
@@ -26,7 +26,7 @@ typedef struct {
 } Words;
 
 typedef struct {
-    uint16_t parent, first_child, next_sibling, label, depth, tag;
+    uint16_t parent, first_child, next_sibling, label, depth, tag, tagged;
 } Node;
 
 // The nodes, and of the kits in listing order the tags, how many lines each has, and the lines.

@@ -37,7 +37,7 @@ class Growing:
         """Adds a node that names its parent but is on no chain: its number."""
         at = len(self.nodes)
         depth = self.nodes[parent].depth + 1
-        self.nodes.append(Node(parent, NONE, next_sibling, label, depth, tag_of(at)))
+        self.nodes.append(Node(parent, NONE, next_sibling, label, depth, tag_of(at), tagged=0))
         return at
 
     def add(self, parent, label):
@@ -67,5 +67,5 @@ class Growing:
         self.nodes = moved
 
     def words(self):
-        """The table's words, what is left of it free."""
-        return nodes.words_of(self.nodes + [FREE] * self.room())
+        """The table's words, what is left of it free; what stands below each node is counted."""
+        return nodes.words_of(nodes.counted(self.nodes) + [FREE] * self.room())

@@ -13,8 +13,6 @@
 #include <stdio.h>
 #include <stdlib.h>
 
-enum { NODE_WORDS = 6 };
-
 // The build lists the checks: declared here, in a row below, and by name.
 #define CHECK(name) bool name(const uint16_t *nodes, size_t words, uint16_t parts);
 CHECKS

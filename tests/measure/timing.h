@@ -1,5 +1,5 @@
-// What the measuring programs share: numbers read from a file, and the least processor time of
-// jobs that are done in turn. PROGRAM, defined before this is included, is the program's name.
+// What the measuring programs share: numbers read from a file, the words of a node, and the least
+// processor time of jobs that are done in turn. PROGRAM, defined before this is included, is the program's name.
 #ifndef TIMING_H
 #define TIMING_H
 #include <stdint.h>
@@ -7,6 +7,8 @@
 #include <stdlib.h>
 #include <time.h>
 
+// The words of a node.
+enum { NODE_WORDS = 7 };
 enum { SWEEPS = 12, ROUNDS = 16, MOST_JOBS = 32 };
 #define ROUND_NANOSECONDS 200e3
 

@@ -190,6 +190,14 @@ def almost_filled(request):
                         "Q": at_start(lent["Q"], [lacking for _, lacking in found])}
 
 
+def count_kits(request):
+    """How many kits begin with a list: "the count for a list's units as a beginning"."""
+    lent = request.blocks
+    parts = check_tables(lent)
+    row = kits.units(kits.checked_lines(lent["L"], parts))
+    return questions.beginning_with(nodes.held_kits(lent["N"]), row), {}
+
+
 def write_sheet(request):
     """Write the sheet at the start of a lent output: bytes written."""
     lent = request.blocks
@@ -235,6 +243,7 @@ CALLS = {
     "W": all_within,
     "C": all_containing,
     "a": almost_filled,
+    "#": count_kits,
     "s": write_sheet,
     "r": read_sheet,
 }

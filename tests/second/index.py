@@ -1,6 +1,9 @@
-"""Insertion and deletion in a sound node table, word for word as document 01 lays down."""
+"""Insertion and deletion in a sound node table, word for word as document 01 lays down.
 
-from .nodes import FREE, NO_TAG, NONE, ROOT, Node, chain, nodes_of, words_of
+What request 7 counts is not carried along: behind each change all nodes are counted again.
+"""
+
+from .nodes import FREE, NO_TAG, NONE, ROOT, Node, chain, counted, nodes_of, words_of
 
 
 def child_with(nodes, at, label):
@@ -53,7 +56,7 @@ def unlink(nodes, at):
 
 
 def enter(nodes, row, tag):
-    """Enters a kit; there must be enough free nodes.
+    """Enters a kit, all but what is counted; there must be enough free nodes.
 
     "Insertion takes missing nodes from shallow to deep, each the lowest numbered free one."
     """
@@ -63,7 +66,7 @@ def enter(nodes, row, tag):
         if child == NONE:
             child = nodes.index(FREE, ROOT + 1)
             nodes[child] = Node(parent=at, first_child=NONE, next_sibling=NONE, label=label,
-                                depth=nodes[at].depth + 1, tag=NO_TAG)
+                                depth=nodes[at].depth + 1, tag=NO_TAG, tagged=0)
             link(nodes, child)
         at = child
     nodes[at] = nodes[at]._replace(tag=tag)
@@ -73,7 +76,7 @@ def inserted(words, row, tag):
     """The table with this kit entered."""
     nodes = nodes_of(words)
     enter(nodes, row, tag)
-    return words_of(nodes)
+    return words_of(counted(nodes))
 
 
 def filled(node_count, kits):
@@ -81,7 +84,7 @@ def filled(node_count, kits):
     nodes = [FREE] * node_count
     for row, tag in kits:
         enter(nodes, row, tag)
-    return words_of(nodes)
+    return words_of(counted(nodes))
 
 
 def deleted(words, row):
@@ -100,4 +103,4 @@ def deleted(words, row):
         unlink(nodes, at)
         nodes[at] = FREE
         at = parent
-    return words_of(nodes)
+    return words_of(counted(nodes))

@@ -1,16 +1,17 @@
-"""The node table of document 01: its fields, its soundness, and the kits that it holds."""
+"""The node table of document 01 and request 7: fields, soundness, and the kits that it holds."""
 
-from collections import namedtuple
+from collections import Counter, namedtuple
 from functools import lru_cache
 from itertools import chain as joined
 
-# "Lent 16-bit words, six per node .. 1 to 4,096 nodes."
-Node = namedtuple("Node", "parent first_child next_sibling label depth tag")
+# "Lent 16-bit words, six per node .. 1 to 4,096 nodes." Request 7: "Each node gets a seventh word,
+# the number of tagged nodes at or below it."
+Node = namedtuple("Node", "parent first_child next_sibling label depth tag tagged")
 NODE_WORDS = len(Node._fields)
 FEWEST_NODES = 1
 MOST_NODES = 4096
 ROOT = 0
-# "link 0 means none; tag 0 means no kit ends here. A free node is six zeros."
+# "link 0 means none; tag 0 means no kit ends here." "free nodes keep seven zeros"
 NONE = 0
 NO_TAG = 0
 FREE = Node(*[0] * NODE_WORDS)
@@ -23,7 +24,7 @@ REMEMBERED = 8
 
 
 def right_length(words):
-    """Whether the table has whole nodes, "1 to 4,096"."""
+    """Whether the table has whole nodes, "1 to 4,096": "a multiple of 7, up to 28,672 words"."""
     nodes, rest = divmod(len(words), NODE_WORDS)
     return rest == 0 and FEWEST_NODES <= nodes <= MOST_NODES
 
@@ -158,6 +159,38 @@ def tags_differ(nodes, numbers):
     return len(tags) == len(set(tags))
 
 
+def tagged_at_or_below(nodes, numbers):
+    """For each used node "the number of tagged nodes at or below it".
+
+    A node stands at or below all that are passed on the way from it up to the root.
+    """
+    found = Counter()
+    for at in numbers:
+        if nodes[at].tag == NO_TAG:
+            continue
+        while at != ROOT:
+            found[at] += 1
+            at = nodes[at].parent
+        found[ROOT] += 1
+    return found
+
+
+def counts_are_right(nodes, numbers):
+    """Whether the seventh word of each used node, the root too, is that number."""
+    right = tagged_at_or_below(nodes, numbers)
+    return all(nodes[at].tagged == right[at] for at in numbers)
+
+
+def counted(nodes):
+    """The nodes with the seventh word of each used one as soundness requires it."""
+    numbers = used_numbers(nodes)
+    right = tagged_at_or_below(nodes, numbers)
+    nodes = list(nodes)
+    for at in numbers:
+        nodes[at] = nodes[at]._replace(tagged=right[at])
+    return nodes
+
+
 def sound(words, parts):
     """Whether a table of right length is sound beside a register of so many parts.
 
@@ -180,7 +213,8 @@ def remembered_verdict(words, parts):
             and all(next_sibling_is_right(nodes, at) for at in numbers)
             and all_on_chains(nodes, numbers)
             and childless_have_tags(nodes, numbers)
-            and tags_differ(nodes, numbers))
+            and tags_differ(nodes, numbers)
+            and counts_are_right(nodes, numbers))
 
 
 def held_kits(words):

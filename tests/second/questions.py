@@ -1,4 +1,4 @@
-"""The questions on the kits held, by trying every kit."""
+"""The questions on the kits held, by trying every kit; how many begin with a row."""
 
 from .kits import included, listing_order, quantities, shortfall
 
@@ -20,3 +20,11 @@ def almost_filled(held, row, most):
     have = quantities(row)
     short = [(tag, shortfall(quantities(kit), have)) for kit, tag in listing_order(held)]
     return [(tag, lacking) for tag, lacking in short if lacking <= most]
+
+
+def beginning_with(held, row):
+    """How many kits have this row as a beginning, which may be all of it.
+
+    A row that begins no kit has no path in the table; one above 64 units begins none.
+    """
+    return sum(kit[:len(row)] == row for kit in held)

@@ -20,9 +20,10 @@ use Rattle.kits.specs.declared.Row.{Row}
 use Rattle.kits.proofs.Rows.{row-back}
 use Rattle.kits.proofs.Units.{good-row}
 use Rattle.nodes.specs.Inner.{Sound}
-use Rattle.nodes.specs.Held.{Kit, held, tagIn}
+use Rattle.nodes.specs.Held.{Kit, held, tagIn, countBeginning}
 use Rattle.nodes.proofs.Held.{held-good}
 use Rattle.nodes.proofs.Listing.{tag-none}
+use Rattle.nodes.proofs.Tallies.{count-long}
 use Rattle.index_insert.specs.Enter.{enter, lacks}
 use Rattle.index.specs.Index.{entryRefusals, missingRefusals}
 use Rattle.index.specs.Inner.{insertingRow, findingRow, deletingRow}
@@ -33,7 +34,7 @@ use Rattle.sheet.specs.Calls as sheet
 use Rattle.sheet_read.specs.Inner as filling
 use Rattle.ground.specs.Tables.{Tables, tables}
 use Rattle.tables.specs.Lent.{partCount, lengths, lentBoth, lentList}
-use Rattle.catalogue.specs.Calls.{contents, emptying, inserting, finding, deleting, anyKit, allKits, almostKits, writing, reading}
+use Rattle.catalogue.specs.Calls.{contents, emptying, inserting, finding, deleting, counting, anyKit, allKits, almostKits, writing, reading}
 
 -- the row of a list that has room, as it is lent on by value
 module _ (w : Row) (l : List ℕ) (is : w ≡ fixedRow (units l)) where
@@ -138,6 +139,23 @@ module _ (R N : List ℕ) where
           promise-behind (lentList (tables R N) l) (missingRefusals (units l) N) _ _ (tables R N) _ _ 0 (ap isRefused (sym is) ∙ e)
           (promise-part (tables R) (deletingRow (units l) N) N q N′ (rw row at p))
 
+      -- Counting
+      pub count-done : (us : List ℕ) (n : ℕ) → isRefused r ≡ false → us ≡ units l → n ≡ countBeginning us (held N) →
+          done n ≡ answer (counting l (tables R N))
+      unfolding counting answer
+      count-done us n e row f =
+          ap done (f ∙ ap (λ (u : List ℕ). countBeginning u (held N)) row)
+          ∙ sym (whole-passes r (lentList (tables R N) l) 0 (countBeginning (units l) (held N)) is e)
+
+      pub count-too-long : isRefused r ≡ false → Sound mostPlace N → leb (length (units l)) mostUnits ≡ false →
+          done 0 ≡ answer (counting l (tables R N))
+      count-too-long e s h =
+          count-done (units l) 0 e refl (sym (count-long (s .shape) (units l) (leb-false (length (units l)) mostUnits h)))
+
+      pub count-refused : isRefused r ≡ true → r ≡ answer (counting l (tables R N))
+      unfolding counting answer
+      count-refused e = whole-refuses r _ 0 _ is e
+
       -- The questions
       module _ (question : List ℕ → Kit → Bool) where
         pub any-refused : isRefused r ≡ true → r ≡ answer (anyKit question l (tables R N))
@@ -193,7 +211,7 @@ module _ (R N : List ℕ) where
         behind-both : (s : Reply) (T′ : Tables) →
             Promise (plan (given (isZero t) 8
             0 ∷ (listFaults (partCount (tables R N)) l ++ (given (ltb mostUnits (length (units l))) 7 0 ∷ entryRefusals (units l) t N)))
-            (lacks N 0 (units l)) (tables R (enter N 0 (units l) t))) (tables R N) s T′ →
+            (lacks N 0 (units l)) (tables R (enter N (units l) t))) (tables R N) s T′ →
             Promise (inserting l t (tables R N)) (tables R N) s T′
         unfolding inserting
         behind-both s T′ p = promise-behind (lentBoth (tables R N)) _ _ _ (tables R N) s T′ 0 (ap isRefused (sym is) ∙ e) p
@@ -206,7 +224,7 @@ module _ (R N : List ℕ) where
           behind-tag : (s : Reply) (T′ : Tables) →
               Promise (plan (listFaults (partCount (tables R N)) l
               ++ (given (ltb mostUnits (length (units l))) 7 0 ∷ entryRefusals (units l) t N)) (lacks N 0 (units l))
-              (tables R (enter N 0 (units l) t))) (tables R N) s T′ →
+              (tables R (enter N (units l) t))) (tables R N) s T′ →
               Promise (inserting l t (tables R N)) (tables R N) s T′
           behind-tag s T′ p =
               behind-both s T′ (promise-behind (given (isZero t) 8 0 ∷ []) _ _ _ (tables R N) s T′ 0
@@ -219,7 +237,7 @@ module _ (R N : List ℕ) where
             module _ (f : isRefused q ≡ false) where
               behind-list : (s : Reply) (T′ : Tables) →
                   Promise (plan (given (ltb mostUnits (length (units l))) 7 0 ∷ entryRefusals (units l) t N) (lacks N 0 (units l))
-                  (tables R (enter N 0 (units l) t))) (tables R N) s T′ →
+                  (tables R (enter N (units l) t))) (tables R N) s T′ →
                   Promise (inserting l t (tables R N)) (tables R N) s T′
               behind-list s T′ p =
                   behind-tag s T′ (promise-behind (listFaults (partCount (tables R N)) l) _ _ _ (tables R N) s T′ 0

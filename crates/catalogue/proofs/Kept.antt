@@ -138,13 +138,13 @@ insertion l t T v e =
     }
 
 pub insert-keeps-sound : (l : List ℕ) (t : ℕ) (T : Tables) (v : ℕ) → Insertion l t T v → SoundTables T →
-    SoundTables (tables (T .register) (enter (T .nodes) 0 (units l) t))
+    SoundTables (tables (T .register) (enter (T .nodes) (units l) t))
 insert-keeps-sound l t T v i s =
     let r = good-row (partCount T) l (i .good) (i .short) in
     record {
       ready = s .ready;
       sized =
-          same-nodes-length (T .nodes) (enter (T .nodes) 0 (units l) t) (insert-length (s .sound) r (i .some-tag) (i .accepted)) (s .sized);
+          same-nodes-length (T .nodes) (enter (T .nodes) (units l) t) (insert-length (s .sound) r (i .some-tag) (i .accepted)) (s .sized);
       sound = insert-sound (s .sound) r (i .some-tag) (i .accepted);
     }
 

@@ -12,7 +12,7 @@ use Rattle.register.specs.Register.{slotCount}
 use Rattle.register.specs.Calls.{registering, lookingUp, showing}
 use Rattle.kits.specs.Kits.{mostUnits, units, listFaults}
 use Rattle.nodes.specs.Nodes.{size}
-use Rattle.nodes.specs.Held.{Kit, held, tagIn}
+use Rattle.nodes.specs.Held.{Kit, held, tagIn, countBeginning}
 use Rattle.index_insert.specs.Enter.{enter, lacks}
 use Rattle.index_delete.specs.Strike.{strike}
 use Rattle.index.specs.Index.{entryRefusals, missingRefusals}
@@ -49,7 +49,7 @@ inserting l t T =
     ++ (given (ltb mostUnits (length (units l))) 7 0
     ∷ entryRefusals (units l) t (T .nodes)))))
     (lacks (T .nodes) 0 (units l))
-    (tables (T .register) (enter (T .nodes) 0 (units l) t))
+    (tables (T .register) (enter (T .nodes) (units l) t))
 
 -- [10.3] "Find a list, delete a list: its tag"
 unfoldable pub finding : List ℕ → Tables → Plan Tables
@@ -58,6 +58,10 @@ finding l T = plan (lentList T l ++ missingRefusals (units l) (T .nodes)) (tagOf
 -- [10.4] "delete a list: its tag"
 unfoldable pub deleting : List ℕ → Tables → Plan Tables
 deleting l T = plan (lentList T l ++ missingRefusals (units l) (T .nodes)) (tagOf T l) (tables (T .register) (strike (T .nodes) (units l)))
+
+-- [10.14] "A new call gives the count for a list's units as a beginning, 0 where no such path exists"
+unfoldable pub counting : List ℕ → Tables → Plan Tables
+counting l T = plan (lentList T l) (countBeginning (units l) (held (T .nodes))) T
 
 -- a question that is asked of a list's units and a kit: `isWithin`, `isContaining` or `isAlmost d`
 abbrev pub Question : Type 0
@@ -102,7 +106,7 @@ pub data Call : Type 0 where
   registerPart lookUp : List ℕ → Call
   showAt : ℕ → Call
   insertKit : List ℕ → ℕ → Call
-  findKit deleteKit anyWithin anyContaining : List ℕ → Call
+  findKit deleteKit countKits anyWithin anyContaining : List ℕ → Call
   allWithin allContaining : List ℕ → List ℕ → Call
   allAlmost : ℕ → List ℕ → Both → Call
   writeSheet readSheet : List ℕ → Call
@@ -123,6 +127,7 @@ planOf (showAt p) T = onRegister T (showing p (T .register))
 planOf (insertKit l t) T = inserting l t T
 planOf (findKit l) T = finding l T
 planOf (deleteKit l) T = deleting l T
+planOf (countKits l) T = counting l T
 planOf (anyWithin l) T = anyKit isWithin l T
 planOf (anyContaining l) T = anyKit isContaining l T
 planOf (allWithin l o) T = apart T (allKits isWithin l T o)

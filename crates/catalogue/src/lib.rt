@@ -5,7 +5,7 @@ ghost use Rattle.ground.specs.Calls.{answer, SetsBoth};
 ghost use Rattle.questions.specs.Questions.{isWithin, isContaining};
 ghost use Rattle.ground.specs.Tables.{tables};
 ghost use Rattle.answers.specs.Answers.{reply};
-ghost use Rattle.catalogue.specs.Calls.{emptying, inserting, finding, deleting, anyKit, allKits, almostKits, writing, reading, Leaves, Sets};
+ghost use Rattle.catalogue.specs.Calls.{emptying, inserting, finding, deleting, counting, anyKit, allKits, almostKits, writing, reading, Leaves, Sets};
 use answers::Answer;
 use answers::refused;
 use tables::check_lengths;
@@ -57,6 +57,17 @@ pub fn delete(reg: &[u8], nodes: &mut [u16], list: &[u16]) -> Answer
         return lent;
     }
     sound::delete(reg, nodes, list)
+}
+
+// Counts the kits that begin with a list's units. No kit begins with more than 64 units.
+pub fn count_beginning(reg: &[u8], nodes: &[u16], list: &[u16]) -> Answer
+    ensures { λ r. ⌜ reply r ≡ answer (counting (now (list .entry)) (tables (now (reg .entry)) (now (nodes .entry)))) ⌝ }
+{
+    let lent = check_tables(reg, nodes);
+    if refused(lent) {
+        return lent;
+    }
+    sound::count_beginning(reg, nodes, list)
 }
 
 // Any kit within the bin: the tag of the first in listing order, or 0.

@@ -6,7 +6,7 @@ ghost use Rattle.questions.specs.Questions.{isWithin, isContaining};
 ghost use Rattle.ground.specs.Tables.{tables};
 ghost use Rattle.tables.specs.Inner.{SoundTables};
 ghost use Rattle.answers.specs.Answers.{reply};
-ghost use Rattle.catalogue.specs.Calls.{inserting, finding, deleting, anyKit, allKits, almostKits, writing, Leaves, Sets};
+ghost use Rattle.catalogue.specs.Calls.{inserting, finding, deleting, counting, anyKit, allKits, almostKits, writing, Leaves, Sets};
 use answers::Answer;
 use answers::refused;
 use ground::wide16;
@@ -59,6 +59,21 @@ pub fn delete(reg: &[u8], nodes: &mut [u16], list: &[u16]) -> Answer
         return Answer::NotHeld;
     }
     index::delete(nodes, kits::row_of(list))
+}
+
+// Counts the kits that begin with a list's units. No kit begins with more than 64 units.
+pub fn count_beginning(reg: &[u8], nodes: &[u16], list: &[u16]) -> Answer
+    requires { ⌜ SoundTables (tables (now reg) (now nodes)) ⌝ }
+    ensures { λ r. ⌜ reply r ≡ answer (counting (now (list .entry)) (tables (now (reg .entry)) (now (nodes .entry)))) ⌝ }
+{
+    let typed = check_lines(reg, list);
+    if refused(typed) {
+        return typed;
+    }
+    if !kits::has_room(list) {
+        return Answer::Done(0);
+    }
+    Answer::Done(index::count(nodes, kits::row_of(list)))
 }
 
 // Any kit within the bin: the tag of the first in listing order, or 0.

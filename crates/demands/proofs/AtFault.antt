@@ -22,8 +22,8 @@ use Rattle.nodes.proofs.Sorted as sorted
 use Rattle.nodes.proofs.Sorted.{Every, also}
 use Rattle.index.specs.Index.{entryRefusals, missingRefusals}
 use Rattle.tables.specs.Lent.{partCount, lengths, lentBoth, lentList}
-use Rattle.catalogue.specs.Calls.{Call, planOf, inserting, finding, deleting, anyKit, allKits, almostKits}
-use Rattle.demands.specs.AtFault.{firstLines, by-half, by-line, LineCharged, SomeLine, TakesList, to-insert, to-find, to-delete}
+use Rattle.catalogue.specs.Calls.{Call, planOf, inserting, finding, deleting, counting, anyKit, allKits, almostKits}
+use Rattle.demands.specs.AtFault.{firstLines, by-half, by-line, LineCharged, SomeLine, TakesList, to-insert, to-find, to-delete, to-count}
 use Rattle.demands.specs.AtFault.{within-any, containing-any, within-all, containing-all, almost-all, ListExactly}
 use Rattle.demands.proofs.Damaged.{Above, behind-above, tablesThen, wrong}
 
@@ -219,12 +219,14 @@ record ByList (c : Call) (l : List ℕ) (untagged : Bool) (T : Tables) : Type 0 
       v
 
 by-list : (c : Call) (l : List ℕ) (untagged : Bool) (T : Tables) → TakesList l c untagged → ByList c l untagged T
-unfolding decide tablesThen planOf lengths lentBoth lentList inserting entryRefusals finding deleting missingRefusals anyKit allKits almostKits setDown
-    setBoth
+unfolding decide tablesThen planOf lengths lentBoth lentList inserting entryRefusals finding deleting missingRefusals counting anyKit allKits almostKits
+    setDown setBoth
 by-list c l untagged T (to-insert t) =
     record { cases = _; rest = _; above = also refl (also refl (also refl (also refl sorted.none))); parted = refl; decided = λ v. refl }
 by-list c l untagged T to-find = record { cases = _; rest = _; above = also refl sorted.none; parted = refl; decided = λ v. refl }
 by-list c l untagged T to-delete = record { cases = _; rest = _; above = also refl sorted.none; parted = refl; decided = λ v. refl }
+by-list c l untagged T to-count =
+    record { cases = _; rest = []; above = sorted.none; parted = sym (append-nil (listFaults (partCount T) l)); decided = λ v. refl }
 by-list c l untagged T within-any =
     record { cases = _; rest = []; above = sorted.none; parted = sym (append-nil (listFaults (partCount T) l)); decided = λ v. refl }
 by-list c l untagged T containing-any =

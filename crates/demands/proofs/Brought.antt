@@ -44,7 +44,7 @@ use Rattle.catalogue.proofs.Kept.{done-parts, same-register-length, same-nodes-
 use Rattle.catalogue.proofs.Kept.{empty-sound, register-keeps-sound, insert-keeps-sound, delete-keeps-sound}
 use Rattle.catalogue.specs.Calls.{Call, emptyBoth, registerPart, lookUp, showAt, insertKit, findKit, deleteKit, anyWithin, anyContaining}
 use Rattle.catalogue.specs.Calls.{allWithin, allContaining, allAlmost, writeSheet, readSheet, planOf, emptying, inserting, finding}
-use Rattle.catalogue.specs.Calls.{deleting, anyKit, reading}
+use Rattle.catalogue.specs.Calls.{countKits, deleting, counting, anyKit, reading}
 use Rattle.demands.specs.Model as demand
 use Rattle.demands.specs.Model.{has, listedIn, step, model, run, log, Catalogue, Allowed, begun}
 use Rattle.demands.specs.Model.{tablesOf, entered}
@@ -105,15 +105,15 @@ module _ (l : List ℕ) (t : ℕ) (R N : List ℕ) (m : Contents) (b : Brought (
       (held-rows-differ (b .both .sound .shape)) h in
       omega (arith, I .accepted .fresh, held-tagged (b .both .sound .shape) k h)
 
-  pub now-held : held (enter N 0 (units l) t) ≡ inOrder (kit (units l) t ∷ m .kits)
+  pub now-held : held (enter N (units l) t) ≡ inOrder (kit (units l) t ∷ m .kits)
   unfolding inOrder
   now-held = held-after-insert (b .both .sound) row (I .some-tag) (I .accepted) ∙ ap (putKit (kit (units l) t)) (b .kits)
 
   -- as many nodes are taken as there are beginnings more
-  pub now-begun : length (allBeginnings (held (enter N 0 (units l) t))) ≡ length (allBeginnings (held N)) + lacks N 0 (units l)
+  pub now-begun : length (allBeginnings (held (enter N (units l) t))) ≡ length (allBeginnings (held N)) + lacks N 0 (units l)
   now-begun = insert-growth (b .both .sound) row (I .some-tag) (I .accepted)
 
-  inserted : t < twoLimit → Brought (tables R (enter N 0 (units l) t)) (has (m .parts) (kit (units l) t ∷ m .kits))
+  inserted : t < twoLimit → Brought (tables R (enter N (units l) t)) (has (m .parts) (kit (units l) t ∷ m .kits))
   inserted small-tag = record {
     both = insert-keeps-sound l t (tables R N) v I (b .both);
     parts = b .parts;
@@ -243,7 +243,7 @@ pub record Typed (c : Call) : Type 0 where
 
 pub done-keeps : (c : Call) (T : Tables) (m : Contents) (v : ℕ) → Typed c → answer (planOf c T) ≡ done v → Brought T m →
     Brought (planOf c T .after) (demand.accepted c m)
-unfolding planOf demand.accepted answer lookingUp showing finding anyKit
+unfolding planOf demand.accepted answer lookingUp showing finding counting anyKit
 done-keeps emptyBoth T m v y e b = empty-kept T v e
 done-keeps (registerPart n) T m v y e b = register-kept n T m v e b
 done-keeps (lookUp n) T m v y e b = b
@@ -251,6 +251,7 @@ done-keeps (showAt p) T m v y e b = b
 done-keeps (insertKit l t) T m v y e b = insert-kept l t T m v (y .tag l t refl) e b
 done-keeps (findKit l) T m v y e b = b
 done-keeps (deleteKit l) T m v y e b = delete-kept l T m v e b
+done-keeps (countKits l) T m v y e b = b
 done-keeps (anyWithin l) T m v y e b = b
 done-keeps (anyContaining l) T m v y e b = b
 done-keeps (allWithin l o) T m v y e b = b

@@ -21,7 +21,7 @@ use Rattle.sheet.specs.Calls.{sheetRefusals, roomRefusals}
 use Rattle.tables.specs.Lent.{partCount, lengths, lentBoth, lentList}
 use Rattle.catalogue.specs.Calls.{Call, emptyBoth, registerPart, lookUp, showAt, insertKit, findKit, deleteKit, anyWithin, anyContaining}
 use Rattle.catalogue.specs.Calls.{allWithin, allContaining, allAlmost, writeSheet, readSheet, planOf, emptying, inserting, finding}
-use Rattle.catalogue.specs.Calls.{deleting, anyKit, allKits, almostKits, writing, reading}
+use Rattle.catalogue.specs.Calls.{countKits, deleting, counting, anyKit, allKits, almostKits, writing, reading}
 use Rattle.demands.specs.Demand1.{TablesAsked, theRegister, theLengths, bothTables, asksOf, LengthWrong, TableUnsound, OneExactly, TwoExactly}
 
 ------------------------------------------------------------------------
@@ -114,7 +114,7 @@ record Fronted (c : Call) (T : Tables) : Type 0 where
 
 fronted : (c : Call) (T : Tables) → Fronted c T
 unfolding planOf what-is-asked asksOf lentRegister lengths lentBoth lentList emptying registering numberRefusals lookingUp showing inserting
-    entryRefusals finding deleting missingRefusals anyKit allKits almostKits setBoth writing setDown reading sheetRefusals roomRefusals
+    entryRefusals finding deleting missingRefusals counting anyKit allKits almostKits setBoth writing setDown reading sheetRefusals roomRefusals
 fronted emptyBoth T = record { rest = []; cases = refl; above = none }
 fronted (registerPart n) T = record { rest = _; cases = refl; above = also refl (also refl (also refl (also refl none))) }
 fronted (lookUp n) T = record { rest = _; cases = refl; above = also refl (also refl none) }
@@ -126,6 +126,7 @@ fronted (insertKit l t) T = record {
 }
 fronted (findKit l) T = record { rest = _; cases = refl; above = every-append (list-above (partCount T) l) (also refl none) }
 fronted (deleteKit l) T = record { rest = _; cases = refl; above = every-append (list-above (partCount T) l) (also refl none) }
+fronted (countKits l) T = record { rest = _; cases = refl; above = list-above (partCount T) l }
 fronted (anyWithin l) T = record { rest = _; cases = refl; above = list-above (partCount T) l }
 fronted (anyContaining l) T = record { rest = _; cases = refl; above = list-above (partCount T) l }
 fronted (allWithin l o) T = record { rest = _; cases = refl; above = every-append (list-above (partCount T) l) (also refl none) }

@@ -17,7 +17,7 @@ use Rattle.sheet.specs.Calls.{sheetRefusals, roomRefusals}
 use Rattle.tables.specs.Lent.{partCount, lengths, lentBoth, lentList}
 use Rattle.catalogue.specs.Calls.{Call, emptyBoth, registerPart, lookUp, showAt, insertKit, findKit, deleteKit, anyWithin, anyContaining}
 use Rattle.catalogue.specs.Calls.{allWithin, allContaining, allAlmost, writeSheet, readSheet, planOf, emptying, inserting, finding}
-use Rattle.catalogue.specs.Calls.{deleting, anyKit, allKits, almostKits, writing, reading}
+use Rattle.catalogue.specs.Calls.{countKits, deleting, counting, anyKit, allKits, almostKits, writing, reading}
 use Rattle.demands.specs.Demand1.{numbersGiven, NumbersLaidDown}
 
 -- its number is among some
@@ -47,7 +47,7 @@ module _ (ns : List ℕ) (four : anyb (eqb 4) ns ≡ true) (five : anyb (eqb 5) 
 -- call by call
 cases-in : (c : Call) (T : Tables) → Every (NumberIn (numbersGiven c)) (planOf c T .cases)
 unfolding anyb numbersGiven planOf lentRegister lengths lentBoth lentList emptying registering numberRefusals lookingUp showing inserting
-    entryRefusals finding deleting missingRefusals anyKit allKits almostKits setBoth writing setDown reading sheetRefusals roomRefusals
+    entryRefusals finding deleting missingRefusals counting anyKit allKits almostKits setBoth writing setDown reading sheetRefusals roomRefusals
 cases-in emptyBoth T = also refl (also refl none)
 cases-in (registerPart n) T = also refl (also refl (also refl (also refl (also refl (also refl none)))))
 cases-in (lookUp n) T = also refl (also refl (also refl (also refl none)))
@@ -58,6 +58,7 @@ cases-in (findKit l) T =
     also refl (also refl (also refl (also refl (every-append (list-in (numbersGiven (findKit l)) refl refl refl (partCount T) l) (also refl none)))))
 cases-in (deleteKit l) T =
     also refl (also refl (also refl (also refl (every-append (list-in (numbersGiven (deleteKit l)) refl refl refl (partCount T) l) (also refl none)))))
+cases-in (countKits l) T = also refl (also refl (also refl (also refl (list-in (numbersGiven (countKits l)) refl refl refl (partCount T) l))))
 cases-in (anyWithin l) T = also refl (also refl (also refl (also refl (list-in (numbersGiven (anyWithin l)) refl refl refl (partCount T) l))))
 cases-in (anyContaining l) T = also refl (also refl (also refl (also refl (list-in (numbersGiven (anyContaining l)) refl refl refl (partCount T) l))))
 cases-in (allWithin l o) T =

@@ -6,6 +6,7 @@ pub mod Brought
 pub mod Sizes
 pub mod Answers
 pub mod Almost
+pub mod Beginning
 pub mod Counts
 pub mod Sheets
 pub mod Told

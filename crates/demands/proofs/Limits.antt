@@ -1,7 +1,7 @@
 -- The limits, computed.
 use mathlib.Core.Path.{refl}
 use Rattle.demands.specs.Limits.{registeredAlone, bytesWith, fiveParts, pathFrom, pathAnswer, listAnswer, risingLines, checkAnswer}
-use Rattle.demands.specs.Limits.{twoKits, wordsAfter, readIn, NumberLimits, LengthLimits, PathLimits, ListLimits, LineLimits, RoomLimits, OrderOfRefusals, NodeWords, SheetLimits, Limits}
+use Rattle.demands.specs.Limits.{twoKits, wordsAfter, withNumbers, longKit, readIn, NumberLimits, LengthLimits, PathLimits, ListLimits, LineLimits, RoomLimits, OrderOfRefusals, NodeWords, CountLimits, SheetLimits, Limits}
 use Rattle.demands.proofs.Opened.{opened}
 
 number-limits : NumberLimits
@@ -10,7 +10,7 @@ number-limits = (refl, refl, refl, refl, refl, refl, refl)
 
 length-limits : LengthLimits
 unfolding opened
-length-limits = (refl, refl, refl, refl, refl, refl, refl, refl)
+length-limits = (refl, refl, refl, refl, refl, refl, refl, refl, refl, refl)
 
 path-limits : PathLimits
 unfolding opened fiveParts pathFrom pathAnswer
@@ -37,9 +37,13 @@ node-words : NodeWords
 unfolding opened wordsAfter
 node-words = (refl, refl, refl)
 
+count-limits : CountLimits
+unfolding opened fiveParts withNumbers longKit
+count-limits = (refl, refl, refl)
+
 sheet-limits : SheetLimits
 unfolding opened readIn
 sheet-limits = (refl, refl, refl, refl, refl, refl, refl, refl, refl, refl, refl, refl)
 
 pub limits : Limits
-limits = (number-limits, length-limits, path-limits, list-limits, line-limits, room-limits, order-of-refusals, node-words, sheet-limits)
+limits = (number-limits, length-limits, path-limits, list-limits, line-limits, room-limits, order-of-refusals, node-words, count-limits, sheet-limits)

@@ -8,14 +8,14 @@ use Rattle.register.specs.Register.{registerLength, slotOf, slotAt, numberIn, s
 use Rattle.register.specs.Register.{usedFirst, unusedZero, noneTwice, registerSound, placeFrom, placeIn, registerOf}
 use Rattle.register.specs.Calls.{lentRegister, numberRefusals, registering, lookingUp, showing}
 use Rattle.kits.specs.Kits.{lineValue, lineFaults, linesFaults, listFaults, units, count, noMore, includes, before, linesFrom, listOf}
-use Rattle.kits.specs.Kits.{caseTest, goodList}
+use Rattle.kits.specs.Kits.{caseTest, goodList, begins}
 use Rattle.nodes.specs.Nodes.{nodesLength, nodesOf, othersOf, zeroWord, isFree, isUsed, freeNodes, usedNodes, tagged, path, rowOf}
-use Rattle.nodes.specs.Nodes.{chain, children}
+use Rattle.nodes.specs.Nodes.{chain, children, upward, isUnder, tagsUnder}
 use Rattle.nodes.specs.Sound.{rootGood, parentGood, depthGood, labelGood, fewEqual, linksInside, childGood, nextGood, onChain}
-use Rattle.nodes.specs.Sound.{endTagged, tagsDiffer, usedOthers, nodesSound}
-use Rattle.nodes.specs.Held.{putKit, inOrder, tagIn, tagsOf, kitAt, held, firstTag, beginnings, addNew, allBeginnings}
-use Rattle.index_links.specs.Links.{hasLabel, childWith, lastBelow, linkTo, link, unlink, nodeOf}
-use Rattle.index_insert.specs.Enter.{lowestFree, enter, lacks, enterAll}
+use Rattle.nodes.specs.Sound.{endTagged, tagsDiffer, tallyGood, usedOthers, nodesSound}
+use Rattle.nodes.specs.Held.{putKit, inOrder, tagIn, tagsOf, kitAt, held, firstTag, beginnings, addNew, allBeginnings, beginsWith, countBeginning}
+use Rattle.index_links.specs.Links.{hasLabel, childWith, lastBelow, linkTo, link, unlink, nodeOf, recount}
+use Rattle.index_insert.specs.Enter.{lowestFree, enterBelow, enter, lacks, enterAll}
 use Rattle.index_delete.specs.Strike.{prune, strikeAt, strike}
 use Rattle.index.specs.Index.{entryRefusals, missingRefusals}
 use Rattle.questions.specs.Questions.{isWithin, isContaining, fitting, allOf, anyOf}
@@ -28,20 +28,20 @@ use Rattle.sheet.specs.Reading.{isFault, offset, said}
 use Rattle.sheet.specs.Calls.{roomRefusals, sheetRefusals}
 use Rattle.sheet_read.specs.Filling.{filling}
 use Rattle.tables.specs.Lent.{lengths, lentBoth, lentList}
-use Rattle.catalogue.specs.Calls.{planOf, inserting, deleting, allKits, almostKits, anyKit, writing, emptying, finding, reading}
+use Rattle.catalogue.specs.Calls.{planOf, inserting, deleting, allKits, almostKits, anyKit, writing, emptying, finding, reading, counting}
 use Rattle.demands.specs.Model.{run, begun, tablesOf, log}
 
 unfoldable pub opened : Bool
 unfolding allb anyb every keep distinct concat eqList from firstOr laid decide answer leaves memory setDown setBoth goodByte goodNumber
     registerLength slotOf slotAt numberIn slotGood unusedAt usedAt numberAt partsOf usedHolds usedFirst unusedZero noneTwice
     registerSound placeFrom placeIn registerOf lentRegister punctuationAtEnd numberRefusals registering lookingUp showing lineValue lineFaults
-    linesFaults listFaults units count noMore includes before linesFrom listOf caseTest goodList nodesLength nodesOf othersOf zeroWord
-    isFree isUsed freeNodes usedNodes tagged path rowOf chain children rootGood parentGood depthGood labelGood fewEqual linksInside
-    childGood nextGood onChain endTagged tagsDiffer usedOthers nodesSound putKit inOrder tagIn tagsOf kitAt held firstTag beginnings
-    addNew allBeginnings hasLabel childWith lastBelow linkTo link unlink nodeOf lowestFree enter lacks enterAll prune strikeAt strike
+    linesFaults listFaults units count noMore includes before linesFrom listOf caseTest goodList begins nodesLength nodesOf othersOf zeroWord
+    isFree isUsed freeNodes usedNodes tagged path rowOf chain children upward isUnder tagsUnder rootGood parentGood depthGood labelGood fewEqual linksInside
+    childGood nextGood onChain endTagged tagsDiffer tallyGood usedOthers nodesSound putKit inOrder tagIn tagsOf kitAt held firstTag beginnings
+    addNew allBeginnings beginsWith countBeginning hasLabel childWith lastBelow linkTo link unlink nodeOf lowestFree enterBelow enter recount lacks enterAll prune strikeAt strike
     entryRefusals missingRefusals isWithin isContaining fitting allOf anyOf sumOver lacking shortfall shortOf isAlmost shortsOf inBytes
     valueFrom encode numberItem numberItems lineItems recordItem recordItems onward one bytes anyTwo isVersion goodPartCount numberSize
     newNumber numbers recordSize linesRead listIn kitIn hasTag follows newKit unless records front runOf whole decode isFault offset
     said roomRefusals sheetRefusals filling lengths lentBoth lentList planOf inserting deleting allKits almostKits anyKit writing
-    emptying finding reading run begun tablesOf log
+    emptying finding reading counting run begun tablesOf log
 opened = true

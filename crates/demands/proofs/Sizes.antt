@@ -19,7 +19,7 @@ use Rattle.ground.specs.Tables.{Tables, tables}
 use Rattle.tables.specs.Lent.{partCount}
 use Rattle.catalogue.specs.Calls.{Call, emptyBoth, registerPart, lookUp, showAt, insertKit, findKit, deleteKit, anyWithin, anyContaining}
 use Rattle.catalogue.specs.Calls.{allWithin, allContaining, allAlmost, writeSheet, readSheet, planOf, emptying, inserting, finding}
-use Rattle.catalogue.specs.Calls.{deleting, anyKit}
+use Rattle.catalogue.specs.Calls.{countKits, deleting, counting, anyKit}
 use Rattle.demands.specs.Model.{has, step, run, Catalogue, Allowed, begun, tablesOf}
 use Rattle.catalogue.proofs.Kept.{insertion, delete-held}
 use Rattle.demands.proofs.Brought.{Brought, Typed, what-was-read, call-keeps, begun-empty, all-typed}
@@ -42,7 +42,7 @@ register-alike n T v e =
 
 done-alike : (c : Call) (T : Tables) (m : Contents) (v : ℕ) → Typed c → answer (planOf c T) ≡ done v → Brought T m →
     Alike T (planOf c T .after)
-unfolding planOf answer emptying lookingUp showing inserting finding deleting anyKit
+unfolding planOf answer emptying lookingUp showing inserting finding deleting counting anyKit
 done-alike emptyBoth T m v y e b =
     record { register = length-replicate (length (T .register)) 0; nodes = length-replicate (length (T .nodes)) 0 }
 done-alike (registerPart n) T m v y e b = register-alike n T v e
@@ -53,6 +53,7 @@ done-alike (insertKit l t) T m v y e b =
     record { register = refl; nodes = insert-length (b .both .sound) (good-row (partCount T) l (i .good) (i .short)) (i .some-tag) (i .accepted) }
 done-alike (findKit l) T m v y e b = record { register = refl; nodes = refl }
 done-alike (deleteKit l) T m v y e b = record { register = refl; nodes = delete-length (b .both .sound) (units l) (delete-held l T v e) }
+done-alike (countKits l) T m v y e b = record { register = refl; nodes = refl }
 done-alike (anyWithin l) T m v y e b = record { register = refl; nodes = refl }
 done-alike (anyContaining l) T m v y e b = record { register = refl; nodes = refl }
 done-alike (allWithin l o) T m v y e b = record { register = refl; nodes = refl }

@@ -29,7 +29,7 @@ use Rattle.tables.specs.Lent.{lengths, lentList}
 use Rattle.tables.proofs.Lent.{lengths-good}
 use Rattle.catalogue.specs.Calls.{Call, emptyBoth, registerPart, lookUp, showAt, insertKit, findKit, deleteKit, anyWithin, anyContaining}
 use Rattle.catalogue.specs.Calls.{allWithin, allContaining, allAlmost, writeSheet, readSheet, planOf, emptying, inserting, finding}
-use Rattle.catalogue.specs.Calls.{deleting, reading}
+use Rattle.catalogue.specs.Calls.{countKits, deleting, reading}
 use Rattle.demands.specs.Model.{more}
 use Rattle.demands.specs.Demand1.{told, ToldExactly}
 use Rattle.demands.proofs.Model.{tag-order}
@@ -37,6 +37,7 @@ use Rattle.demands.proofs.Brought.{Brought, brought}
 use Rattle.demands.proofs.Sizes.{sizes}
 use Rattle.demands.proofs.Answers.{behind-tables, any-answer, all-answer}
 use Rattle.demands.proofs.Almost.{almost-answer}
+use Rattle.demands.proofs.Beginning.{count-answer}
 use Rattle.demands.proofs.Sheets.{write-answer}
 use Rattle.demands.proofs.Counts.{as-many}
 
@@ -155,6 +156,7 @@ module _ {T : Tables} {m : Contents} (b : Brought T m) (slots room : ℕ) (hs : 
   call-told (insertKit l t) = insert-told l t
   call-told (findKit l) = find-told l
   call-told (deleteKit l) = delete-told l
+  call-told (countKits l) = count-answer b l
   call-told (anyWithin l) = any-answer b isWithin l
   call-told (anyContaining l) = any-answer b isContaining l
   call-told (allWithin l o) = all-answer b isWithin l o

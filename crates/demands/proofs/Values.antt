@@ -24,6 +24,7 @@ use Rattle.nodes.specs.Held.{Kit, held, tagIn, tagsOf, firstTag, beginnings, ad
 use Rattle.nodes.proofs.Lists.{zero-or}
 use Rattle.nodes.proofs.Sorted.{Every, none, also, every-append, keep-short, allb-mem}
 use Rattle.nodes.proofs.Listing.{tags-long, tag-from}
+use Rattle.nodes.proofs.Tallies.{count-most}
 use Rattle.index_insert.specs.Enter.{lacks}
 use Rattle.index_insert.proofs.Entered.{lacks-most}
 use Rattle.index.specs.Index.{entryRefusals, missingRefusals}
@@ -46,7 +47,7 @@ use Rattle.ground.specs.Tables.{Tables, tables}
 use Rattle.tables.specs.Lent.{partCount, lengths, lentBoth, lentList}
 use Rattle.catalogue.specs.Calls.{emptyBoth, registerPart, lookUp, showAt, insertKit, findKit, deleteKit, anyWithin, anyContaining}
 use Rattle.catalogue.specs.Calls.{allWithin, allContaining, allAlmost, writeSheet, readSheet, planOf, emptying, inserting, finding}
-use Rattle.catalogue.specs.Calls.{deleting, anyKit, allKits, almostKits, writing, reading}
+use Rattle.catalogue.specs.Calls.{countKits, deleting, counting, anyKit, allKits, almostKits, writing, reading}
 use Rattle.catalogue.specs.Calls.{Question}
 use Rattle.demands.specs.Pins.{ValuesFit}
 use Rattle.demands.proofs.Offsets.{fault-near}
@@ -269,6 +270,11 @@ module _ (R N : List ℕ) (words : (i : ℕ) → getD N i 0 < twoLimit) where
       small-front (lentList T l) _ _ (list-fits T l)
       (λ e. small-step _ _ _ (λ _. some-limit) (λ _. end-small _ (tag-here (list-lent l e) (units l))))
 
+  pub counting-small : (l : List ℕ) → valueOf (answer (counting l (tables R N))) < limit
+  unfolding answer counting
+  counting-small l =
+      small-end (lentList T l) _ (list-fits T l) (λ e. omega (arith, count-most (units l) (held N), kits-here (list-lent l e)))
+
   pub any-small : (question : Question) (l : List ℕ) → valueOf (answer (anyKit question l (tables R N))) < limit
   unfolding answer anyKit anyOf
   any-small question l =
@@ -353,6 +359,7 @@ values-fit (showAt p) T w b = showing-small p (T .register)
 values-fit (insertKit l t) T w b = inserting-small (T .register) (T .nodes) w l t
 values-fit (findKit l) T w b = finding-small (T .register) (T .nodes) w l
 values-fit (deleteKit l) T w b = deleting-small (T .register) (T .nodes) w l
+values-fit (countKits l) T w b = counting-small (T .register) (T .nodes) w l
 values-fit (anyWithin l) T w b = any-small (T .register) (T .nodes) w isWithin l
 values-fit (anyContaining l) T w b = any-small (T .register) (T .nodes) w isContaining l
 values-fit (allWithin l o) T w b = all-small (T .register) (T .nodes) w isWithin l o

@@ -12,7 +12,7 @@ use Rattle.ground.specs.Calls.{Both, refused, decide, answer}
 use Rattle.ground.specs.Tables.{Tables}
 use Rattle.kits.specs.Kits.{listFaults, goodList}
 use Rattle.tables.specs.Lent.{partCount}
-use Rattle.catalogue.specs.Calls.{Call, insertKit, findKit, deleteKit, anyWithin, anyContaining, allWithin, allContaining, allAlmost, planOf}
+use Rattle.catalogue.specs.Calls.{Call, insertKit, findKit, deleteKit, countKits, anyWithin, anyContaining, allWithin, allContaining, allAlmost, planOf}
 use Rattle.demands.specs.Demand1.{bothTables, LengthWrong, TableUnsound}
 
 -- the first k lines of a list
@@ -38,6 +38,7 @@ pub data TakesList (l : List ℕ) : Call → Bool → Type 0 where
   to-insert : (t : ℕ) → TakesList l (insertKit l t) (isZero t)
   to-find : TakesList l (findKit l) false
   to-delete : TakesList l (deleteKit l) false
+  to-count : TakesList l (countKits l) false
   within-any : TakesList l (anyWithin l) false
   containing-any : TakesList l (anyContaining l) false
   within-all : (o : List ℕ) → TakesList l (allWithin l o) false

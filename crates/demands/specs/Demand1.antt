@@ -18,14 +18,14 @@ use Rattle.register.specs.Register.{placeIn, registerLength, registerSound}
 use Rattle.kits.specs.Kits.{listFaults, mostUnits, units}
 use Rattle.nodes.specs.Nodes.{nodesLength}
 use Rattle.nodes.specs.Sound.{nodesSound}
-use Rattle.nodes.specs.Held.{firstTag, tagIn, tagsOf}
+use Rattle.nodes.specs.Held.{countBeginning, firstTag, tagIn, tagsOf}
 use Rattle.questions.specs.Questions.{isContaining, isWithin}
 use Rattle.sheet.specs.Sheet.{Contents, encode, nodesNeeded}
 use Rattle.sheet.specs.Reading.{decode, said}
 use Rattle.sheet.specs.Calls.{sheetRefusals}
 use Rattle.tables.specs.Lent.{partCount}
 use Rattle.catalogue.specs.Calls.{Call, Question, allAlmost, allContaining, allKits, allWithin, almostKits, anyContaining, anyWithin}
-use Rattle.catalogue.specs.Calls.{deleteKit, emptyBoth, findKit, insertKit, lookUp, planOf, readSheet, registerPart, showAt, writeSheet}
+use Rattle.catalogue.specs.Calls.{countKits, deleteKit, emptyBoth, findKit, insertKit, lookUp, planOf, readSheet, registerPart, showAt, writeSheet}
 use Rattle.catalogue.specs.Calls.{writing}
 use Rattle.demands.specs.Model.{Allowed, Catalogue, almostOf, answering, entered, listedIn, listingOf, more, tablesOf}
 
@@ -57,6 +57,7 @@ told slots room m (findKit l) =
     decide (listFaults (length (m .parts)) l ++ (given (isZero (tagIn (units l) (m .kits))) 11 0 ∷ [])) (tagIn (units l) (m .kits))
 told slots room m (deleteKit l) =
     decide (listFaults (length (m .parts)) l ++ (given (isZero (tagIn (units l) (m .kits))) 11 0 ∷ [])) (tagIn (units l) (m .kits))
+told slots room m (countKits l) = decide (listFaults (length (m .parts)) l) (countBeginning (units l) (m .kits))
 told slots room m (anyWithin l) = decide (listFaults (length (m .parts)) l) (firstTag (answering isWithin l m))
 told slots room m (anyContaining l) = decide (listFaults (length (m .parts)) l) (firstTag (answering isContaining l m))
 told slots room m (allWithin l o) = answer (listingOf isWithin l m o)
@@ -85,6 +86,7 @@ asksOf (showAt p) = theRegister
 asksOf (insertKit l t) = bothTables
 asksOf (findKit l) = bothTables
 asksOf (deleteKit l) = bothTables
+asksOf (countKits l) = bothTables
 asksOf (anyWithin l) = bothTables
 asksOf (anyContaining l) = bothTables
 asksOf (allWithin l o) = bothTables
@@ -123,6 +125,7 @@ numbersGiven (showAt p) = 1 ∷ 2 ∷ 11 ∷ []
 numbersGiven (insertKit l t) = 1 ∷ 2 ∷ 8 ∷ 4 ∷ 5 ∷ 6 ∷ 7 ∷ 9 ∷ 10 ∷ 12 ∷ []
 numbersGiven (findKit l) = 1 ∷ 2 ∷ 4 ∷ 5 ∷ 6 ∷ 11 ∷ []
 numbersGiven (deleteKit l) = 1 ∷ 2 ∷ 4 ∷ 5 ∷ 6 ∷ 11 ∷ []
+numbersGiven (countKits l) = 1 ∷ 2 ∷ 4 ∷ 5 ∷ 6 ∷ []
 numbersGiven (anyWithin l) = 1 ∷ 2 ∷ 4 ∷ 5 ∷ 6 ∷ []
 numbersGiven (anyContaining l) = 1 ∷ 2 ∷ 4 ∷ 5 ∷ 6 ∷ []
 numbersGiven (allWithin l o) = 1 ∷ 2 ∷ 4 ∷ 5 ∷ 6 ∷ 12 ∷ []

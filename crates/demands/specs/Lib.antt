@@ -4,6 +4,7 @@ pub mod Demand1
 pub mod AtFault
 pub mod Demand2
 pub mod Almost
+pub mod Beginning
 pub mod Demand3
 pub mod Pins
 pub mod ShortCases

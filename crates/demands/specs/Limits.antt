@@ -6,13 +6,14 @@ use Prim.Native.Nat.{ℕ, zero, suc, _+_, _-_, _*_, _/_}
 use lib.ListN.{take, replicate}
 use lib.Dec.{eqb}
 use Rattle.ground.specs.Lists.{from, keep}
-use Rattle.ground.specs.Calls.{Reply, done, refused, numberOf, valueOf, decide, answer, both}
+use Rattle.ground.specs.Calls.{Reply, done, refused, numberOf, valueOf, decide, answer, memory, both}
 use Rattle.ground.specs.Tables.{Tables, tables}
 use Rattle.register.specs.Calls.{registering, lookingUp, showing}
 use Rattle.kits.specs.Kits.{lineValue, listFaults}
+use Rattle.nodes.specs.Nodes.{wordsPerNode}
 use Rattle.questions.specs.Questions.{isWithin, isContaining}
 use Rattle.sheet.specs.Sheet.{encode}
-use Rattle.catalogue.specs.Calls.{Call, registerPart, insertKit, deleteKit, emptying, inserting, finding, anyKit, allKits, almostKits, reading}
+use Rattle.catalogue.specs.Calls.{Call, registerPart, insertKit, deleteKit, emptying, inserting, finding, anyKit, allKits, almostKits, reading, counting}
 use Rattle.demands.specs.Model.{has, tablesOf}
 
 -- tables of so many bytes and words, all zero, and of so many slots and nodes
@@ -20,7 +21,7 @@ abbrev pub zeroTables : ℕ → ℕ → Tables
 zeroTables r n = tables (replicate r 0) (replicate n 0)
 
 abbrev pub emptyTables : ℕ → ℕ → Tables
-emptyTables slots nodes = zeroTables (slots * 32) (nodes * 6)
+emptyTables slots nodes = zeroTables (slots * 32) (nodes * wordsPerNode)
 
 ------------------------------------------------------------------------
 -- "A part number is 1 to 24 bytes, each a digit, a capital A to Z, hyphen, full stop or slash." "The letters a to z join the allowed bytes."
@@ -46,18 +47,21 @@ NumberLimits =
     × (registeredAlone (0x41 ∷ 0x2D ∷ 0x2E ∷ 0x2F ∷ 0x41 ∷ []) ≡ done 1)
 
 ------------------------------------------------------------------------
--- "Its length is a multiple of 32 from 32 to 8,160 (1 to 255 parts)." "Lent 16-bit words, six per node .. 1 to 4,096 nodes."
+-- "Its length is a multiple of 32 from 32 to 8,160 (1 to 255 parts)." "Lent 16-bit words .. 1 to 4,096 nodes."
+-- Request 7: "the table's length becomes a multiple of 7, up to 28,672 words."
 
 abbrev pub LengthLimits : Type 0
 LengthLimits =
     (answer (emptying (emptyTables 255 4096)) ≡ done 0)
     × (answer (emptying (emptyTables 256 1)) ≡ refused 1 0)
     × (answer (emptying (emptyTables 1 4097)) ≡ refused 1 0)
-    × (answer (emptying (zeroTables 32 6)) ≡ done 0)
-    × (answer (emptying (zeroTables 0 6)) ≡ refused 1 0)
+    × (answer (emptying (zeroTables 32 28672)) ≡ done 0)
+    × (answer (emptying (zeroTables 32 7)) ≡ done 0)
+    × (answer (emptying (zeroTables 0 7)) ≡ refused 1 0)
     × (answer (emptying (zeroTables 32 0)) ≡ refused 1 0)
-    × (answer (emptying (zeroTables 33 6)) ≡ refused 1 0)
-    × (answer (emptying (zeroTables 32 7)) ≡ refused 1 0)
+    × (answer (emptying (zeroTables 33 7)) ≡ refused 1 0)
+    × (answer (emptying (zeroTables 32 6)) ≡ refused 1 0)
+    × (answer (emptying (zeroTables 32 8)) ≡ refused 1 0)
 
 ------------------------------------------------------------------------
 -- "depth one more than its parent's and at most 64", "no path has more than 15 equal labels"
@@ -69,12 +73,12 @@ fiveParts n = tablesOf (record { slots = 5; room = n; calls = map (λ b. registe
 -- the n nodes of a path from node i on, so many of them to a label; the last has the tag 9
 unfoldable pub pathFrom : ℕ → ℕ → ℕ → List ℕ
 pathFrom each i zero = []
-pathFrom each i (suc zero) = (i - 1) ∷ 0 ∷ 0 ∷ ((i - 1) / each + 1) ∷ i ∷ 9 ∷ []
-pathFrom each i (suc (suc n)) = (i - 1) ∷ (i + 1) ∷ 0 ∷ ((i - 1) / each + 1) ∷ i ∷ 0 ∷ pathFrom each (i + 1) (suc n)
+pathFrom each i (suc zero) = (i - 1) ∷ 0 ∷ 0 ∷ ((i - 1) / each + 1) ∷ i ∷ 9 ∷ 1 ∷ []
+pathFrom each i (suc (suc n)) = (i - 1) ∷ (i + 1) ∷ 0 ∷ ((i - 1) / each + 1) ∷ i ∷ 0 ∷ 1 ∷ pathFrom each (i + 1) (suc n)
 
 -- what is answered of the empty kit: it is not held, or the table is not sound
 unfoldable pub pathAnswer : ℕ → ℕ → Reply
-pathAnswer each n = answer (finding [] (tables (fiveParts 1 .register) (0 ∷ 1 ∷ 0 ∷ 0 ∷ 0 ∷ 0 ∷ pathFrom each 1 n)))
+pathAnswer each n = answer (finding [] (tables (fiveParts 1 .register) (0 ∷ 1 ∷ 0 ∷ 0 ∷ 0 ∷ 0 ∷ 1 ∷ pathFrom each 1 n)))
 
 abbrev pub PathLimits : Type 0
 PathLimits =
@@ -159,7 +163,7 @@ abbrev pub badRegister : List ℕ
 badRegister = replicate 32 1
 
 abbrev pub badNodes : List ℕ
-badNodes = 1 ∷ 0 ∷ 0 ∷ 0 ∷ 0 ∷ 0 ∷ []
+badNodes = 1 ∷ replicate (wordsPerNode - 1) 0
 
 abbrev pub OrderOfRefusals : Type 0
 OrderOfRefusals =
@@ -167,7 +171,7 @@ OrderOfRefusals =
     (answer (finding [] (tables badRegister [])) ≡ refused 1 0)
     × (answer (finding [] (tables [] badNodes)) ≡ refused 1 0)
     -- 2 register and 8; 2 nodes and 8; 8 and 4; 6 and 7
-    × (answer (inserting [] 0 (tables badRegister (replicate 6 0))) ≡ refused 2 0)
+    × (answer (inserting [] 0 (tables badRegister (replicate wordsPerNode 0))) ≡ refused 2 0)
     × (answer (inserting [] 0 (tables (replicate 32 0) badNodes)) ≡ refused 2 0)
     × (answer (inserting (1 ∷ []) 0 twoKits) ≡ refused 8 0)
     × (answer (inserting (sixtyAnd 16) 7 (fiveParts 1)) ≡ refused 6 5)
@@ -194,7 +198,7 @@ OrderOfRefusals =
     × (map (λ p. numberOf (answer (showing p (twoKits .register)))) (0 ∷ 1 ∷ 2 ∷ []) ≡ 11 ∷ 0 ∷ 11 ∷ [])
 
 ------------------------------------------------------------------------
--- "parent, first child, next sibling, label, depth, tag". "Insertion takes missing nodes from shallow to deep, each the lowest numbered free
+-- "parent, first child, next sibling, label, depth, tag", and "the number of tagged nodes at or below it". "Insertion takes missing nodes from shallow to deep, each the lowest numbered free
 -- one." "Freed nodes are used again."
 
 -- the words of five nodes, after some calls behind the registration of three parts
@@ -210,18 +214,46 @@ twoEntered = insertKit (1 ∷ 2 ∷ []) 7 ∷ insertKit (2 ∷ 1 ∷ []) 8 ∷ [
 
 abbrev pub NodeWords : Type 0
 NodeWords =
-    (wordsAfter twoEntered ≡ 0 ∷ 1 ∷ 0 ∷ 0 ∷ 0 ∷ 0
-    ∷ 0 ∷ 2 ∷ 3 ∷ 1 ∷ 1 ∷ 0
-    ∷ 1 ∷ 0 ∷ 0 ∷ 1 ∷ 2 ∷ 7
-    ∷ 0 ∷ 0 ∷ 0 ∷ 2 ∷ 1 ∷ 8
-    ∷ replicate 6 0)
-    × (wordsAfter (twoEntered ++ (deleteKit (1 ∷ 2 ∷ []) ∷ [])) ≡ 0 ∷ 3 ∷ 0 ∷ 0 ∷ 0 ∷ 0
-    ∷ (replicate 12 0 ++ (0 ∷ 0 ∷ 0 ∷ 2 ∷ 1 ∷ 8
-    ∷ replicate 6 0)))
-    × (wordsAfter (twoEntered ++ (deleteKit (1 ∷ 2 ∷ []) ∷ insertKit (3 ∷ 1 ∷ []) 9 ∷ [])) ≡ 0 ∷ 3 ∷ 0 ∷ 0 ∷ 0 ∷ 0
-    ∷ 0 ∷ 0 ∷ 0 ∷ 3 ∷ 1 ∷ 9
-    ∷ (replicate 6 0 ++ (0 ∷ 0 ∷ 1 ∷ 2 ∷ 1 ∷ 8
-    ∷ replicate 6 0)))
+    (wordsAfter twoEntered ≡ 0 ∷ 1 ∷ 0 ∷ 0 ∷ 0 ∷ 0 ∷ 2
+    ∷ 0 ∷ 2 ∷ 3 ∷ 1 ∷ 1 ∷ 0 ∷ 1
+    ∷ 1 ∷ 0 ∷ 0 ∷ 1 ∷ 2 ∷ 7 ∷ 1
+    ∷ 0 ∷ 0 ∷ 0 ∷ 2 ∷ 1 ∷ 8 ∷ 1
+    ∷ replicate 7 0)
+    × (wordsAfter (twoEntered ++ (deleteKit (1 ∷ 2 ∷ []) ∷ [])) ≡ 0 ∷ 3 ∷ 0 ∷ 0 ∷ 0 ∷ 0 ∷ 1
+    ∷ (replicate 14 0 ++ (0 ∷ 0 ∷ 0 ∷ 2 ∷ 1 ∷ 8 ∷ 1
+    ∷ replicate 7 0)))
+    × (wordsAfter (twoEntered ++ (deleteKit (1 ∷ 2 ∷ []) ∷ insertKit (3 ∷ 1 ∷ []) 9 ∷ [])) ≡ 0 ∷ 3 ∷ 0 ∷ 0 ∷ 0 ∷ 0 ∷ 2
+    ∷ 0 ∷ 0 ∷ 0 ∷ 3 ∷ 1 ∷ 9 ∷ 1
+    ∷ (replicate 7 0 ++ (0 ∷ 0 ∷ 1 ∷ 2 ∷ 1 ∷ 8 ∷ 1
+    ∷ replicate 7 0)))
+
+------------------------------------------------------------------------
+-- Request 7: "the number of tagged nodes at or below it. Soundness requires it, free nodes keep seven zeros", "the count for a list's units as a
+-- beginning, 0 where no such path exists"
+
+-- the kits A, A A B and B, with these numbers at the root, at A, A A, A A B and B, and of a free node
+unfoldable pub withNumbers : ℕ → ℕ → ℕ → ℕ → ℕ → ℕ → Tables
+withNumbers root a aa aab b free = tables (fiveParts 1 .register)
+    (0 ∷ 1 ∷ 0 ∷ 0 ∷ 0 ∷ 0 ∷ root
+    ∷ 0 ∷ 2 ∷ 4 ∷ 1 ∷ 1 ∷ 9 ∷ a
+    ∷ 1 ∷ 3 ∷ 0 ∷ 1 ∷ 2 ∷ 0 ∷ aa
+    ∷ 2 ∷ 0 ∷ 0 ∷ 2 ∷ 3 ∷ 7 ∷ aab
+    ∷ 0 ∷ 0 ∷ 0 ∷ 2 ∷ 1 ∷ 5 ∷ b
+    ∷ 0 ∷ 0 ∷ 0 ∷ 0 ∷ 0 ∷ 0 ∷ free ∷ [])
+
+-- a kit of 64 units
+unfoldable pub longKit : Tables
+longKit = memory (inserting (sixtyAnd 4) 7 (fiveParts 65)) (fiveParts 65)
+
+abbrev pub CountLimits : Type 0
+CountLimits =
+    (answer (counting [] (withNumbers 3 2 1 1 1 0)) ≡ done 3)
+    -- a number that is wrong: at the root, in the middle, at a leaf, of a free node, at a leaf and carried up
+    × (map (λ T. answer (counting [] T)) (withNumbers 4 2 1 1 1 0 ∷ withNumbers 3 2 2 1 1 0 ∷ withNumbers 3 2 1 0 1 0 ∷ withNumbers 3 2 1 1 1 1
+    ∷ withNumbers 4 3 2 2 1 0 ∷ [])
+    ≡ replicate 5 (refused 2 0))
+    -- 63 units, 64 and 65
+    × (map (λ n. answer (counting (sixtyAnd n) longKit)) (3 ∷ 4 ∷ 5 ∷ []) ≡ done 1 ∷ done 1 ∷ done 0 ∷ [])
 
 ------------------------------------------------------------------------
 -- The sheet: "13's value is the offset where the first faulty item starts", and what reading needs
@@ -260,4 +292,4 @@ SheetLimits =
 
 -- [15.1]
 abbrev pub Limits : Type 0
-Limits = NumberLimits × LengthLimits × PathLimits × ListLimits × LineLimits × RoomLimits × OrderOfRefusals × NodeWords × SheetLimits
+Limits = NumberLimits × LengthLimits × PathLimits × ListLimits × LineLimits × RoomLimits × OrderOfRefusals × NodeWords × CountLimits × SheetLimits

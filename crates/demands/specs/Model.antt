@@ -17,7 +17,7 @@ use Rattle.shortfalls.specs.Shortfalls.{isAlmost, mostShort, shortsOf}
 use Rattle.sheet.specs.Bytes.{Bytes}
 use Rattle.sheet.specs.Sheet.{Contents}
 use Rattle.sheet.specs.Reading.{decode, said}
-use Rattle.catalogue.specs.Calls.{Call, Question, allAlmost, allContaining, allWithin, anyContaining, anyWithin, contents, deleteKit}
+use Rattle.catalogue.specs.Calls.{Call, Question, allAlmost, allContaining, allWithin, anyContaining, anyWithin, contents, countKits, deleteKit}
 use Rattle.catalogue.specs.Calls.{emptyBoth, findKit, insertKit, lookUp, planOf, readSheet, registerPart, showAt, writeSheet}
 
 abbrev pub has : List (List ℕ) → List Kit → Contents
@@ -31,6 +31,7 @@ accepted (showAt p) m = m
 accepted (insertKit l t) m = has (m .parts) (record { row = units l; tag = t } ∷ m .kits)
 accepted (findKit l) m = m
 accepted (deleteKit l) m = has (m .parts) (dropKit (units l) (m .kits))
+accepted (countKits l) m = m
 accepted (anyWithin l) m = m
 accepted (anyContaining l) m = m
 accepted (allWithin l o) m = m

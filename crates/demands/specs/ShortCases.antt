@@ -2,11 +2,11 @@
 -- example, as calls.
 use mathlib.Core.Path.{_≡_}
 use mathlib.Core.List.{List, [], _∷_, _++_, map}
-use Prim.Native.Nat.{ℕ, suc}
+use Prim.Native.Nat.{ℕ, suc, _*_}
 use lib.ListN.{length, replicate}
 use Rattle.ground.specs.Calls.{Reply, done, refused, answer, memory, Both, both}
 use Rattle.kits.specs.Kits.{listOf}
-use Rattle.nodes.specs.Nodes.{usedNodes}
+use Rattle.nodes.specs.Nodes.{usedNodes, wordsPerNode}
 use Rattle.questions.specs.Questions.{isWithin, isContaining}
 use Rattle.ground.specs.Tables.{Tables, tables}
 use Rattle.sheet.specs.Sheet.{Contents}
@@ -117,7 +117,7 @@ exampleSays =
 
 -- tables of three slots and three nodes that hold something else
 abbrev pub otherTables : Tables
-otherTables = tables (replicate 96 7) (replicate 18 7)
+otherTables = tables (replicate 96 7) (replicate (3 * wordsPerNode) 7)
 
 -- [14.16] the replies, what b lists, the sheet, and the sheet read back. Proof: proofs/ShortCases, `desk-example`
 abbrev pub DeskExample : Type 0

@@ -11,6 +11,7 @@ use Rattle.ground.specs.Tables.{Tables, tables}
 use Rattle.register.specs.Number.{goodNumber, punctuationAtEnd}
 use Rattle.register.specs.Register.{registerSound}
 use Rattle.catalogue.specs.Calls.{registerPart, lookUp, showAt, planOf, reading, writing}
+use Rattle.nodes.specs.Nodes.{wordsPerNode}
 use Rattle.demands.specs.Model.{Allowed, Catalogue, entered, tablesOf}
 
 -- [14.24] from any list of calls, such a number is 16 on registration, whether it is held or not and however full the register is. Proof:
@@ -37,13 +38,13 @@ tornSheet = 0x4B ∷ 0x49 ∷ 0x54 ∷ 0 ∷ 1 ∷ 0 ∷ 2 ∷ 4 ∷ 0x37 ∷ 0x
 
 -- two slots and a node, which it fills
 unfoldable pub tornTables : Tables
-tornTables = let T = tables (replicate 64 7) (replicate 6 7) in memory (reading tornSheet T) T
+tornTables = let T = tables (replicate 64 7) (replicate wordsPerNode 7) in memory (reading tornSheet T) T
 
 -- [14.24] it is accepted; the register that holds them is sound; both are found, at their places, and shown; to register them is 16, not 9 and not
 -- 12; and the sheet written again is the same. Proof: `torn-cases`
 abbrev pub TornCases : Type 0
 TornCases =
-    (answer (reading tornSheet (tables (replicate 64 7) (replicate 6 7))) ≡ done 0)
+    (answer (reading tornSheet (tables (replicate 64 7) (replicate wordsPerNode 7))) ≡ done 0)
     × (registerSound (tornTables .register) ≡ true)
     × (map (λ n. answer (planOf (lookUp n) tornTables)) (torn ∷ (0x2D ∷ 0x41 ∷ []) ∷ []) ≡ done 1 ∷ done 2 ∷ [])
     × (map (λ p. answer (planOf (showAt p) tornTables)) (1 ∷ 2 ∷ []) ≡ done 0 ∷ done 0 ∷ [])

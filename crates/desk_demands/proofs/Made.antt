@@ -17,7 +17,7 @@ use Rattle.nodes.proofs.Sorted.{Every, none as no-more, also, every-mem, every-
 use Rattle.sheet.specs.Bytes.{Bytes}
 use Rattle.questions.specs.Questions.{isWithin, isContaining}
 use Rattle.catalogue.specs.Calls.{Call, emptyBoth, registerPart, lookUp, showAt, insertKit, findKit, deleteKit, anyWithin, anyContaining}
-use Rattle.catalogue.specs.Calls.{allWithin, allContaining, allAlmost, writeSheet, readSheet, planOf, inserting, finding, deleting, anyKit}
+use Rattle.catalogue.specs.Calls.{countKits, allWithin, allContaining, allAlmost, writeSheet, readSheet, planOf, inserting, finding, deleting, anyKit}
 use Rattle.demands.specs.Model.{run, Allowed, begun, tablesOf}
 use Rattle.demands.specs.Demand3.{Writes}
 use Rattle.demands.proofs.Sheets.{sheets-tell}
@@ -174,6 +174,7 @@ Fit (showAt p) = Unit
 Fit (insertKit l t) = t < twoLimit
 Fit (findKit l) = Unit
 Fit (deleteKit l) = Unit
+Fit (countKits l) = Unit
 Fit (anyWithin l) = Unit
 Fit (anyContaining l) = Unit
 Fit (allWithin l o) = Unit

@@ -10,11 +10,12 @@ use Rattle.register.specs.Register.{usedFirst, unusedZero, noneTwice, registerS
 use Rattle.register.specs.Calls.{lentRegister, numberRefusals, registering, lookingUp}
 use Rattle.kits.specs.Kits.{lineValue, lineFaults, linesFaults, listFaults, units, count, noMore, includes, before, linesFrom, listOf}
 use Rattle.nodes.specs.Nodes.{nodesLength, nodesOf, othersOf, zeroWord, isFree, isUsed, freeNodes, usedNodes, tagged, path, rowOf, chain, children}
+use Rattle.nodes.specs.Nodes.{upward, isUnder, tagsUnder}
 use Rattle.nodes.specs.Sound.{rootGood, parentGood, depthGood, labelGood, fewEqual, linksInside, childGood, nextGood, onChain, endTagged}
-use Rattle.nodes.specs.Sound.{tagsDiffer, usedOthers, nodesSound}
+use Rattle.nodes.specs.Sound.{tagsDiffer, tallyGood, usedOthers, nodesSound}
 use Rattle.nodes.specs.Held.{putKit, inOrder, tagIn, tagsOf, firstTag, kitAt, held}
-use Rattle.index_links.specs.Links.{hasLabel, childWith, nodeOf, lastBelow, linkTo, link, unlink}
-use Rattle.index_insert.specs.Enter.{lowestFree, enter, lacks}
+use Rattle.index_links.specs.Links.{hasLabel, childWith, nodeOf, lastBelow, linkTo, link, unlink, recount}
+use Rattle.index_insert.specs.Enter.{lowestFree, enterBelow, enter, lacks}
 use Rattle.index_delete.specs.Strike.{prune, strikeAt, strike}
 use Rattle.index.specs.Index.{entryRefusals, missingRefusals}
 use Rattle.questions.specs.Questions.{isWithin, isContaining, fitting, anyOf, allOf}
@@ -44,9 +45,9 @@ unfoldable opened : Bool
 unfolding lineOpened keep distinct concat eqList from firstOr laid decide answer leaves memory setDown goodByte goodNumber registerLength
     slotOf slotAt numberIn slotGood unusedAt usedAt numberAt partsOf usedHolds usedFirst unusedZero noneTwice registerSound placeFrom placeIn
     lentRegister punctuationAtEnd numberRefusals registering lookingUp lineValue lineFaults linesFaults listFaults units count noMore includes before
-    linesFrom listOf nodesLength nodesOf othersOf zeroWord isFree isUsed freeNodes usedNodes tagged path rowOf chain children rootGood
-    parentGood depthGood labelGood fewEqual linksInside childGood nextGood onChain endTagged tagsDiffer usedOthers nodesSound putKit inOrder
-    tagIn tagsOf firstTag kitAt held hasLabel childWith nodeOf lastBelow linkTo link unlink lowestFree enter lacks prune strikeAt strike
+    linesFrom listOf nodesLength nodesOf othersOf zeroWord isFree isUsed freeNodes usedNodes tagged path rowOf chain children upward isUnder tagsUnder rootGood
+    parentGood depthGood labelGood fewEqual linksInside childGood nextGood onChain endTagged tagsDiffer tallyGood usedOthers nodesSound putKit inOrder
+    tagIn tagsOf firstTag kitAt held hasLabel childWith nodeOf lastBelow linkTo link unlink lowestFree enterBelow enter recount lacks prune strikeAt strike
     entryRefusals missingRefusals isWithin isContaining fitting anyOf allOf inBytes numberItem numberItems lineItems recordItem recordItems
     encode lengths lentBoth lentList inserting finding deleting anyKit allKits writing digits decimal hexDigit hexOf tagsText replyHead
     replyLine inFrontOf lookedUp emptyDesk called shown sheetText registerLine writeLine withList callOf asked askLine atDesk repliesTo

@@ -13,7 +13,7 @@ use Rattle.nodes.specs.Held.{tagsOf}
 use Rattle.questions.specs.Questions.{isWithin, isContaining}
 use Rattle.sheet.specs.Sheet.{Contents, encode}
 use Rattle.catalogue.specs.Calls.{Call, emptyBoth, registerPart, lookUp, showAt, insertKit, findKit, deleteKit, anyWithin, anyContaining}
-use Rattle.catalogue.specs.Calls.{allWithin, allContaining, allAlmost, writeSheet, readSheet}
+use Rattle.catalogue.specs.Calls.{countKits, allWithin, allContaining, allAlmost, writeSheet, readSheet}
 use Rattle.demands.specs.Model.{Allowed, tablesOf, entered, listedIn, answering}
 use Rattle.demands.specs.Demand1.{told}
 use Rattle.demands.specs.Demand3.{Writes, Agree}
@@ -51,6 +51,7 @@ shownFor m (showAt p) = []
 shownFor m (insertKit l t) = []
 shownFor m (findKit l) = []
 shownFor m (deleteKit l) = []
+shownFor m (countKits l) = []
 shownFor m (anyWithin l) = []
 shownFor m (anyContaining l) = []
 shownFor m (allAlmost d l o) = []

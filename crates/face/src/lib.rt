@@ -9,7 +9,7 @@ ghost use Rattle.ground.specs.Tables.{tables};
 ghost use Rattle.answers.specs.Answers.{reply};
 ghost use Rattle.register.specs.Calls.{registering, lookingUp, showing, stretchFrom, stretchSize};
 ghost use Rattle.questions.specs.Questions.{isWithin, isContaining};
-ghost use Rattle.catalogue.specs.Calls.{emptying, inserting, finding, deleting, anyKit, allKits, almostKits, writing, reading};
+ghost use Rattle.catalogue.specs.Calls.{emptying, inserting, finding, deleting, counting, anyKit, allKits, almostKits, writing, reading};
 ghost use Rattle.face.specs.Face.{Handed, Crosses};
 use answers::Answer;
 use answers::refused;
@@ -116,6 +116,19 @@ pub extern "C" fn padrisk_delete(reg: &[u8], nodes: &mut [u16], list: &[u16], va
         r (now (value .exit)) (tables (now (reg .entry)) (now (nodes .exit))) ⌝ }
 {
     hand_over(catalogue::delete(reg, nodes, list), value)
+}
+
+// Counts the kits that begin with a list's units.
+#[no_mangle]
+pub extern "C" fn padrisk_count_beginning(
+    reg: &[u8],
+    nodes: &[u16],
+    list: &[u16],
+    value: &mut u32,
+) -> u8
+    ensures { λ r. ⌜ Handed (answer (counting (now (list .entry)) (tables (now (reg .entry)) (now (nodes .entry))))) r (now (value .exit)) ⌝ }
+{
+    hand_over(catalogue::count_beginning(reg, nodes, list), value)
 }
 
 // Any kit within the bin: the tag of the first in listing order, or 0.

@@ -9,7 +9,7 @@ use Rattle.nodes.specs.Nodes.{depth, rowOf}
 use Rattle.nodes.specs.Inner.{Live}
 use Rattle.nodes.specs.Held.{held, tagIn}
 use Rattle.index_links.specs.Links.{nodeOf}
-use Rattle.index_insert.specs.Enter.{enter, lacks}
+use Rattle.index_insert.specs.Enter.{enterBelow, enter, lacks}
 use Rattle.index_delete.specs.Strike.{strike}
 use Rattle.index.specs.Index.{entryRefusals, missingRefusals}
 
@@ -22,7 +22,7 @@ pub record Going (N r : List ℕ) (p d : ℕ) : Type 0 where
   pub deep : depth N p ≡ d
   pub short : d ≤ length r
   pub is : rowOf N p ≡ take d r
-  pub enters : (t : ℕ) → enter N 0 r t ≡ enter N p (drop d r) t
+  pub enters : (t : ℕ) → enterBelow N 0 r t ≡ enterBelow N p (drop d r) t
   pub lacking : lacks N 0 r ≡ lacks N p (drop d r)
   pub ending : nodeOf N 0 r ≡ nodeOf N p (drop d r)
 
@@ -36,7 +36,7 @@ pub record Deepest (N r : List ℕ) (p : ℕ) : Type 0 where
 
 -- "nodes newly taken"
 unfoldable pub insertingRow : List ℕ → ℕ → List ℕ → Plan (List ℕ)
-insertingRow r t N = plan (entryRefusals r t N) (lacks N 0 r) (enter N 0 r t)
+insertingRow r t N = plan (entryRefusals r t N) (lacks N 0 r) (enter N r t)
 
 -- "its tag"
 unfoldable pub findingRow : List ℕ → List ℕ → Plan (List ℕ)

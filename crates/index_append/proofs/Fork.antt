@@ -17,7 +17,7 @@ use Rattle.kits.proofs.Rows.{agreed-left}
 use Rattle.nodes.specs.Nodes.{parent, child, next, label, depth, size, rowOf}
 use Rattle.nodes.specs.Inner.{Used, Live, Shape}
 use Rattle.nodes.proofs.Rows.{climb, live-inside, row-root, row-step, row-length}
-use Rattle.index_insert.specs.Enter.{enter, lacks}
+use Rattle.index_insert.specs.Enter.{enterBelow, lacks}
 use Rattle.index_insert.proofs.Entered.{lacks-new, lacks-none}
 use Rattle.index_append.specs.Inner.{Edge, top, below, LastChild, Appendable, Agrees, Appends}
 use Rattle.index_append.proofs.Places.{behind-new, enter-down, lacks-down, edge-live}
@@ -192,8 +192,8 @@ module _ {N row : List ℕ} {n k : ℕ} (R : Agrees N n row k) where
         home = C .whole;
       }
 
-      pub climb-enters : {M : List ℕ} (t : ℕ) → M ≡ enter N p (drop k row) t → M ≡ enter N 0 row t
-      climb-enters t m = m ∙ sym (enter-down S t p p-live (drop k row)) ∙ ap (λ (r : List ℕ). enter N 0 r t) fork-is
+      pub climb-enters : {M : List ℕ} (t : ℕ) → M ≡ enterBelow N p (drop k row) t → M ≡ enterBelow N 0 row t
+      climb-enters t m = m ∙ sym (enter-down S t p p-live (drop k row)) ∙ ap (λ (r : List ℕ). enterBelow N 0 r t) fork-is
 
 -- the row entered last, by its own name
 pub agrees-own : {N last row : List ℕ} {n k : ℕ} → Appendable N n last row → k ≡ agreed last row → Agrees N n row k

@@ -18,7 +18,7 @@ use Rattle.nodes.proofs.Chain.{siblings}
 use Rattle.index_links.specs.Links.{childWith, lastBelow}
 use Rattle.index_links.specs.Inner.{Chained, ends, goes}
 use Rattle.index_links.proofs.Chains.{chained-end, below-on, the-children, child-lives, mine-child, with-found, with-row, with-missing}
-use Rattle.index_insert.specs.Enter.{lowestFree, enter, lacks}
+use Rattle.index_insert.specs.Enter.{lowestFree, enterBelow, lacks}
 use Rattle.index_insert.proofs.Free.{used-not-free, unnamed-free}
 use Rattle.index_insert.proofs.Entered.{enter-old, lacks-old}
 use Rattle.index_append.specs.Inner.{Packed, Edge, top, below, LastChild}
@@ -124,18 +124,18 @@ module _ {parts : ℕ} {N : List ℕ} (S : Shape parts N) where
       (with-row S home (label N i) c refl g ∙ sym (row-step (climb S) i u)))
       (zero-or c)
 
-  pub enter-down : (t p : ℕ) → Live N p → (ls : List ℕ) → enter N 0 (rowOf N p ++ ls) t ≡ enter N p ls t
+  pub enter-down : (t p : ℕ) → Live N p → (ls : List ℕ) → enterBelow N 0 (rowOf N p ++ ls) t ≡ enterBelow N p ls t
   enter-down t p v =
-      up-ind (climb S) (λ (p : ℕ). (ls : List ℕ) → enter N 0 (rowOf N p ++ ls) t ≡ enter N p ls t)
-      (λ ls. ap (λ (r : List ℕ). enter N 0 (r ++ ls) t) (row-root (climb S)))
+      up-ind (climb S) (λ (p : ℕ). (ls : List ℕ) → enterBelow N 0 (rowOf N p ++ ls) t ≡ enterBelow N p ls t)
+      (λ ls. ap (λ (r : List ℕ). enterBelow N 0 (r ++ ls) t) (row-root (climb S)))
       (λ i u f ls.
       let e : childWith N (parent N i) (label N i) ≡ i = step-down i u in
       let m : childWith N (parent N i) (label N i) ≢ 0 = λ z. omega (arith, used-pos (climb S) i u) in
-      ap (λ (r : List ℕ). enter N 0 (r ++ ls) t) (row-step (climb S) i u)
-      ∙ ap (λ (r : List ℕ). enter N 0 r t) (append-assoc (rowOf N (parent N i)) (label N i ∷ []) ls)
+      ap (λ (r : List ℕ). enterBelow N 0 (r ++ ls) t) (row-step (climb S) i u)
+      ∙ ap (λ (r : List ℕ). enterBelow N 0 r t) (append-assoc (rowOf N (parent N i)) (label N i ∷ []) ls)
       ∙ f (label N i ∷ ls)
       ∙ enter-old N (parent N i) (label N i) ls t m
-      ∙ ap (λ (x : ℕ). enter N x ls t) e)
+      ∙ ap (λ (x : ℕ). enterBelow N x ls t) e)
       p v
 
   pub lacks-down : (p : ℕ) → Live N p → (ls : List ℕ) → lacks N 0 (rowOf N p ++ ls) ≡ lacks N p ls

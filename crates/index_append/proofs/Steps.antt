@@ -16,12 +16,13 @@ use Rattle.nodes.proofs.Rows.{climb, live-inside}
 use Rattle.index_links.specs.Links.{link}
 use Rattle.index_links.specs.Inner.{LinksBehind}
 use Rattle.index_links.proofs.Splice.{Spliced, Placed, new-used, new-row, used-to, used-ne, same-size}
-use Rattle.index_insert.specs.Enter.{lowestFree, enter}
+use Rattle.index_insert.specs.Enter.{lowestFree, enterBelow}
 use Rattle.index_insert.specs.Inner.{Enters}
 use Rattle.index_insert.proofs.Free.{first-skip}
 use Rattle.index_insert.proofs.Entered.{is-placed}
 use Rattle.index_insert.proofs.Growing.{Growing, grow-links, grow-next, grow-end}
-use Rattle.index_links.proofs.Retag.{retag-length, retag-child, retag-next, retag-parent, retag-label, retag-row, retag-to}
+use Rattle.index_links.proofs.Alike.{Alike, alike-size, alike-parent, alike-child, alike-next, alike-label, alike-used, alike-row}
+use Rattle.index_links.proofs.Retag.{retag-alike}
 use Rattle.index_append.specs.Inner.{Packed, Edge, top, below, LastEntered, LastChild, Appends}
 use Rattle.index_append.proofs.Places.{packed-passed, packed-lowest, behind-all, behind-new, behind-last, behind-inside}
 
@@ -78,6 +79,8 @@ append-start A = record {
     same = refl;
     start = A .packed .few;
     passed = packed-passed (A .grows .enters .shape) (A .packed);
+    home = A .grows .enters .live;
+    row = refl;
   };
   appends = A;
 }
@@ -145,11 +148,27 @@ module _ {N₀ us N : List ℕ} {p₀ d₀ t p b d f : ℕ} (A : Appending N₀ 
         };
       }
 
-retag-edge : (N : List ℕ) (p t : ℕ) {i : ℕ} → Edge N i → Edge (set N (at p tagWord) t) i
-retag-edge N p t top = top
-retag-edge N p t (below {i = i} u z e) =
-    below (retag-to N p t i u) (retag-next N p t i ∙ z)
-    (subst (Edge (set N (at p tagWord) t)) (sym (retag-parent N p t i)) (retag-edge N p t e))
+-- Tags and numbers of kits are no part of it
+module _ {N M : List ℕ} (A : Alike N M) where
+  alike-edge : {i : ℕ} → Edge N i → Edge M i
+  alike-edge top = top
+  alike-edge (below {i = i} u z e) =
+      below (alike-used A i u) (alike-next A i ∙ z) (subst (Edge M) (sym (alike-parent A i)) (alike-edge e))
+
+  pub alike-last : {n : ℕ} {row : List ℕ} → LastEntered N n row → LastEntered M n row
+  alike-last {n} L =
+      let K : Packed N n = L .packed in
+      record {
+        packed = record {
+          some = K .some;
+          few = omega (arith, K .few, alike-size A);
+          used = λ i g k. omega (arith, K .used i g k, alike-label A i);
+          free = λ i g k. alike-label A i ∙ K .free i g (omega (arith, alike-size A));
+        };
+        edge = alike-edge (L .edge);
+        lone = alike-child A (n - 1) ∙ L .lone;
+        is = alike-row A (n - 1) ∙ L .is;
+      }
 
 module _ {N₀ us N : List ℕ} {p₀ d₀ t p b d f : ℕ} (A : Appending N₀ us p₀ d₀ t N p b d f) (h : length us ≤ d) where
   none-behind : b ≡ 0
@@ -161,20 +180,13 @@ module _ {N₀ us N : List ℕ} {p₀ d₀ t p b d f : ℕ} (A : Appending N₀ 
   row-done : rowOf N p ≡ us
   row-done = sym (append-nil (rowOf N p)) ∙ ap (λ (r : List ℕ). rowOf N p ++ r) (sym (drop-of-length-le us h)) ∙ A .appends .is
 
-  tagged-last : LastEntered (set N (at p tagWord) t) f us
-  tagged-last =
-      let K : Packed N f = A .appends .packed in
-      record {
-        packed = record {
-          some = K .some;
-          few = omega (arith, K .few, retag-length N p t);
-          used = λ i g k. omega (arith, K .used i g k, retag-label N p t i);
-          free = λ i g k. retag-label N p t i ∙ K .free i g (omega (arith, retag-length N p t));
-        };
-        edge = subst (Edge (set N (at p tagWord) t)) at-end (retag-edge N p t (A .appends .edge));
-        lone = subst (λ (x : ℕ). child (set N (at p tagWord) t) x ≡ 0) at-end (retag-child N p t p ∙ A .appends .behind .none none-behind);
-        is = subst (λ (x : ℕ). rowOf (set N (at p tagWord) t) x ≡ us) at-end (retag-row N p t p ∙ row-done);
-      }
+  untagged-last : LastEntered N f us
+  untagged-last = record {
+    packed = A .appends .packed;
+    edge = subst (Edge N) at-end (A .appends .edge);
+    lone = subst (λ (x : ℕ). child N x ≡ 0) at-end (A .appends .behind .none none-behind);
+    is = subst (λ (x : ℕ). rowOf N x ≡ us) at-end row-done;
+  }
 
-  pub append-end : {M : List ℕ} → M ≡ set N (at p tagWord) t → (M ≡ enter N₀ p₀ (drop d₀ us) t) × LastEntered M f us
-  append-end {M} e = (grow-end (A .growing) h e, subst (λ (x : List ℕ). LastEntered x f us) (sym e) tagged-last)
+  pub append-end : {M : List ℕ} → M ≡ set N (at p tagWord) t → (M ≡ enterBelow N₀ p₀ (drop d₀ us) t) × LastEntered M f us
+  append-end {M} e = (grow-end (A .growing) h e, subst (λ (x : List ℕ). LastEntered x f us) (sym e) (alike-last (retag-alike N p t) untagged-last))

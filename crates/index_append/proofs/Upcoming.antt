@@ -2,14 +2,14 @@
 use mathlib.Core.Path.{_≡_, refl}
 use mathlib.Core.Bool.{Bool, true, false}
 use mathlib.Core.List.{List, [], _∷_}
-use Prim.Native.Nat.{ℕ}
+use Prim.Native.Nat.{ℕ, _≤_}
 use native.Mathlib.Omega.{arith}
 use lib.ListN.{length}
 use Rattle.ground.specs.Laid.{zeroed}
 use Rattle.ground.proofs.Laws.{getD-zeros}
 use Rattle.kits.specs.Kits.{mostPlace, before}
 use Rattle.kits.proofs.Order.{before-asymmetric}
-use Rattle.nodes.specs.Nodes.{at, childWord, labelWord}
+use Rattle.nodes.specs.Nodes.{mostNodes, at, childWord, labelWord, tally}
 use Rattle.nodes.specs.Inner.{Sized, Shape}
 use Rattle.nodes.specs.Held.{Kit}
 use Rattle.nodes.proofs.Sorted.{Every, Rising, also, ahead, every-map, mem-every}
@@ -60,8 +60,8 @@ pub upcoming-start : (N : List ℕ) (ks : List Kit) → Sized N → Rising Earli
 upcoming-start N ks z r = record { entered = zeroed-last N z; rises = r; behind = mem-every ks (λ k m. not-before-empty (k .row)) }
 
 module _ {N last : List ℕ} {n : ℕ} {k : Kit} {ks : List Kit} (U : Upcoming N n last (k ∷ ks)) where
-  pub upcoming-ready : Enters mostPlace N 0 (k .row) → Appendable N n last (k .row)
-  upcoming-ready E = record { enters = E; entered = U .entered; order = first-of (U .behind) }
+  pub upcoming-ready : Enters mostPlace N 0 (k .row) → ((j : ℕ) → tally N j ≤ mostNodes) → Appendable N n last (k .row)
+  upcoming-ready E few = record { enters = E; entered = U .entered; order = first-of (U .behind); few = few }
     where
       first-of : {P : Kit → Type 0} → Every P (k ∷ ks) → P k
       first-of (also p e) = p

@@ -7,7 +7,7 @@ use Prim.Native.Nat.{ℕ, _-_, _≤_, _<_}
 use lib.ListN.{length, getD, drop}
 use Rattle.kits.specs.Kits.{mostPlace, before}
 use Rattle.kits.specs.Inner.{agreed}
-use Rattle.nodes.specs.Nodes.{parent, child, next, label, size, rowOf}
+use Rattle.nodes.specs.Nodes.{mostNodes, parent, child, next, label, tally, size, rowOf}
 use Rattle.nodes.specs.Inner.{Used}
 use Rattle.index_insert.specs.Inner.{Enters, Grows}
 
@@ -43,6 +43,7 @@ pub record Appendable (N : List ℕ) (n : ℕ) (last row : List ℕ) : Type 0 wh
   pub enters : Enters mostPlace N 0 row
   pub entered : LastEntered N n last
   pub order : before row last ≡ false
+  pub few : (j : ℕ) → tally N j ≤ mostNodes
 
 -- and agrees with that one in the first k places, not further
 pub record Agrees (N : List ℕ) (n : ℕ) (row : List ℕ) (k : ℕ) : Type 0 where

@@ -5,8 +5,9 @@ ghost use Prim.Native.Nat.{_≤_};
 ghost use lib.ListN.{drop};
 ghost use Rattle.kits.specs.Kits.{mostUnits};
 ghost use Rattle.kits.specs.Inner.{unitsIn};
-ghost use Rattle.index_insert.specs.Enter.{enter};
+ghost use Rattle.index_insert.specs.Enter.{enterBelow, enter};
 ghost use Rattle.index_append.specs.Inner.{LastEntered, Appendable, Agrees, Appends};
+use index_links::count_in;
 use index_links::link_behind;
 use index_links::put_tag;
 use kits::Row;
@@ -26,7 +27,7 @@ fn grow_behind(
     t: u16,
 ) -> usize
     requires { ⌜ Appends (now nodes) (now row) at behind from n ⌝ }
-    ensures { λ r. ⌜ now (nodes .exit) ≡ enter (now (nodes .entry)) at (drop from (now (row .entry))) t ⌝
+    ensures { λ r. ⌜ now (nodes .exit) ≡ enterBelow (now (nodes .entry)) at (drop from (now (row .entry))) t ⌝
         ∗ ⌜ LastEntered (now (nodes .exit)) r (now (row .entry)) ⌝ }
 {
     let mut p = at;
@@ -48,7 +49,7 @@ fn grow_behind(
 // last row ends at node n - 1; up from there to the depth to which they agree, the row goes on below p, behind b.
 fn append(nodes: &mut [u16], row: &[u16], shared: usize, n: usize, t: u16) -> usize
     requires { ⌜ Agrees (now nodes) n (now row) shared ⌝ }
-    ensures { λ r. ⌜ now (nodes .exit) ≡ enter (now (nodes .entry)) 0 (now (row .entry)) t ⌝ ∗ ⌜ LastEntered (now (nodes .exit)) r (now (row .entry)) ⌝ }
+    ensures { λ r. ⌜ now (nodes .exit) ≡ enterBelow (now (nodes .entry)) 0 (now (row .entry)) t ⌝ ∗ ⌜ LastEntered (now (nodes .exit)) r (now (row .entry)) ⌝ }
 {
     let mut p = n - 1;
     let mut b = 0;
@@ -64,10 +65,12 @@ fn append(nodes: &mut [u16], row: &[u16], shared: usize, n: usize, t: u16) -> us
 // Enters a kit's row behind prev, the one entered last, with the nodes from n on: how many nodes are used then.
 pub fn append_row(nodes: &mut [u16], prev: Row, row: Row, n: usize, t: u16) -> usize
     requires { ⌜ (prev .len ≤ mostUnits) × (row .len ≤ mostUnits) ⌝ ∗ ⌜ Appendable (now nodes) n (unitsIn prev) (unitsIn row) ⌝ }
-    ensures { λ r. ⌜ now (nodes .exit) ≡ enter (now (nodes .entry)) 0 (unitsIn row) t ⌝ ∗ ⌜ LastEntered (now (nodes .exit)) r (unitsIn row) ⌝ }
+    ensures { λ r. ⌜ now (nodes .exit) ≡ enter (now (nodes .entry)) (unitsIn row) t ⌝ ∗ ⌜ LastEntered (now (nodes .exit)) r (unitsIn row) ⌝ }
 {
     let shared = agree(prev, row);
     let places = row.places;
     let len = row.len;
-    append(nodes, &places[..len], shared, n, t)
+    let used = append(nodes, &places[..len], shared, n, t);
+    count_in(nodes, used - 1);
+    used
 }

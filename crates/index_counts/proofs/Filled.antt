@@ -96,9 +96,9 @@ module _ {parts : ℕ} {T : List Kit} {N : List ℕ} {k : Kit} {ks : List Kit} (
           let o = tags-mem t (held N) (anyb-eqb t (tagsOf (held N)) e) in absurd (F .new (o .0) k (o .1) first .tags (o .2))
 
   abbrev M : List ℕ
-  M = enter N 0 (k .row) (k .tag)
+  M = enter N (k .row) (k .tag)
 
-  is-held : held (enter N 0 (k .row) (k .tag)) ≡ putKit (kit (k .row) (k .tag)) (held N)
+  is-held : held (enter N (k .row) (k .tag)) ≡ putKit (kit (k .row) (k .tag)) (held N)
   is-held = held-after-insert (F .sound) (k-fit .row) (k-fit .some-tag) acceptable
 
   now-held : (x : Kit) → List·Memᴰ x (held M) → (x ≡ k) ⊎ List·Memᴰ x (held N)
@@ -107,7 +107,7 @@ module _ {parts : ℕ} {T : List Kit} {N : List ℕ} {k : Kit} {ks : List Kit} (
   same-table : length M ≡ length N
   same-table = insert-length (F .sound) (k-fit .row) (k-fit .some-tag) acceptable
 
-  pub fill-next : Fillable parts T (enter N 0 (k .row) (k .tag)) ks
+  pub fill-next : Fillable parts T (enter N (k .row) (k .tag)) ks
   fill-next = record {
     sound = insert-sound (F .sound) (k-fit .row) (k-fit .some-tag) acceptable;
     fit = rest-fit (F .fit);
@@ -131,7 +131,7 @@ module _ {parts : ℕ} {T : List Kit} {N : List ℕ} {k : Kit} {ks : List Kit} (
       first-apart : Rising Apart (k ∷ ks) → (b : Kit) → List·Memᴰ b ks → Apart k b
       first-apart (ahead e s) b n = every-mem e n
 
-  pub fill-first : {Z : List ℕ} → Filled parts (enter N 0 (k .row) (k .tag)) ks Z → Filled parts N (k ∷ ks) Z
+  pub fill-first : {Z : List ℕ} → Filled parts (enter N (k .row) (k .tag)) ks Z → Filled parts N (k ∷ ks) Z
   fill-first {Z} y = record {
     sound = y .sound;
     same-length = y .same-length ∙ same-table;
@@ -153,7 +153,7 @@ unfolding enterAll
 fill-none N So =
     record { sound = So; same-length = refl; to = λ k m. inr m; entered = λ k m. absurd (List·Memᴰ·not-nil m); kept = λ k m. m }
 
-fill-more : {parts : ℕ} (N : List ℕ) (k : Kit) (ks : List Kit) → Filled parts N (k ∷ ks) (enterAll (enter N 0 (k .row) (k .tag)) ks) →
+fill-more : {parts : ℕ} (N : List ℕ) (k : Kit) (ks : List Kit) → Filled parts N (k ∷ ks) (enterAll (enter N (k .row) (k .tag)) ks) →
     Filled parts N (k ∷ ks) (enterAll N (k ∷ ks))
 unfolding enterAll
 fill-more N k ks y = y
@@ -161,7 +161,7 @@ fill-more N k ks y = y
 -- The law of entering kits one after the other
 pub filled : {parts : ℕ} {T : List Kit} (ks : List Kit) (N : List ℕ) → Fillable parts T N ks → Filled parts N ks (enterAll N ks)
 filled [] N F = fill-none N (F .sound)
-filled (k ∷ ks) N F = fill-more N k ks (fill-first F (filled ks (enter N 0 (k .row) (k .tag)) (fill-next F)))
+filled (k ∷ ks) N F = fill-more N k ks (fill-first F (filled ks (enter N (k .row) (k .tag)) (fill-next F)))
 
 -- Into a table that holds nothing, kits in listing order: these are held, in this order.
 pub filled-held : {parts : ℕ} {N : List ℕ} (ks : List Kit) → Fillable parts ks N ks → held N ≡ [] → Rising Earlier ks →

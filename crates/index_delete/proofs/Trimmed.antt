@@ -8,7 +8,7 @@ use native.Mathlib.Omega.{arith}
 use lib.ListN.{length}
 use borrow.Author.Tests.{eq-eqb, ne-eqb}
 use Rattle.ground.specs.Lists.{isZero}
-use Rattle.nodes.specs.Nodes.{parent, child, depth, tag, rowOf}
+use Rattle.nodes.specs.Nodes.{parent, child, depth, tag, tally, rowOf}
 use Rattle.nodes.specs.Inner.{Used, Live, Shape}
 use Rattle.nodes.proofs.Lists.{zero-or, same-or}
 use Rattle.nodes.proofs.Rows.{climb, used-pos, deep-used}
@@ -71,6 +71,7 @@ pub record Trimmed (parts : ℕ) (N M : List ℕ) (i : ℕ) : Type 0 where
   pub used : (j : ℕ) → Used M j → Used N j
   pub stays : (j : ℕ) → Used N j → 0 < tag N j → Used M j
   pub rows : (j : ℕ) → Live M j → rowOf M j ≡ rowOf N j
+  pub tallies : (j : ℕ) → Live M j → tally M j ≡ tally N j
   pub leaf : Pending N i → (j : ℕ) → Used M j → child M j ≡ 0 → 0 < tag M j
 
 stopped : {parts : ℕ} {N : List ℕ} {i : ℕ} → Prunes parts N i → (Used N i → child N i ≡ 0 → 0 < tag N i) → Trimmed parts N N i
@@ -81,6 +82,7 @@ stopped {N = N} {i = i} P s = record {
   used = λ j u. u;
   stays = λ j u _. u;
   rows = λ j _. refl;
+  tallies = λ j _. refl;
   leaf = λ A j u c. ⊎-elim
       (λ (e : j ≡ i). subst (λ (x : ℕ). 0 < tag N x) (sym e) (s (subst (Used N) e u) (ap (child N) (sym e) ∙ c)))
       (λ (n : j ≢ i). A j u n c)
@@ -103,6 +105,7 @@ higher {parts = parts} {N = N} {M = M} {i = i} P g t z y =
       used = back;
       stays = λ j v h. y .stays j (used-from X j (λ (e : j ≡ i). omega (arith, ap (tag N) e)) v) (omega (arith, same-tag j));
       rows = λ j l. y .rows j l ∙ sym (rows-kept S u z X j (λ h. back j (l h)) (apart j l));
+      tallies = λ j l. y .tallies j l ∙ sym (X .tallies j (apart j l));
       leaf = λ A. y .leaf (cut-pending S u z X t A);
     }
 

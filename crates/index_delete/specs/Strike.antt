@@ -6,7 +6,7 @@ use Prim.Native.Nat.{ℕ, zero, suc}
 use lib.ListN.{set}
 use Rattle.ground.specs.Lists.{isZero}
 use Rattle.nodes.specs.Nodes.{at, tagWord, parent, child, depth, tag}
-use Rattle.index_links.specs.Links.{nodeOf, unlink}
+use Rattle.index_links.specs.Links.{nodeOf, unlink, oneLess, recount}
 
 -- [6.4] from node i upwards, k nodes at most: each that has neither tag nor child is zeroed and unlinked; the first that must stay ends
 -- it
@@ -14,9 +14,9 @@ unfoldable pub prune : List ℕ → ℕ → ℕ → List ℕ
 prune N zero i = N
 prune N (suc k) i = cond (isZero (tag N i) && isZero (child N i)) (prune (unlink N i) k (parent N i)) N
 
--- [6.5] the kit that ends at node i struck out; a node at depth k has k nodes but the root from it upwards
+-- [6.5, 6.7] the kit that ends at node i struck out: one less there, and at every node above, the root too; a node at depth k has k nodes but the root from it upwards
 unfoldable pub strikeAt : List ℕ → ℕ → List ℕ
-strikeAt N i = prune (set N (at i tagWord) 0) (depth N i) i
+strikeAt N i = prune (set (recount oneLess N (depth N i) i) (at i tagWord) 0) (depth N i) i
 
 -- [6.4] the kit with the row r struck out
 unfoldable pub strike : List ℕ → List ℕ → List ℕ

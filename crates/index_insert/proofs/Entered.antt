@@ -9,28 +9,28 @@ use lib.Seq.{getD-at}
 use borrow.Author.Tests.{eq-eqb, ne-eqb}
 use Rattle.kits.specs.Inner.{GoodRow}
 use Rattle.kits.proofs.Inclusion.{count-append, count-same}
-use Rattle.nodes.specs.Nodes.{at, tagWord, parent, child, label, depth, tag, size, rowOf, freeNodes}
+use Rattle.nodes.specs.Nodes.{at, tagWord, parent, child, label, depth, tag, tally, size, rowOf, freeNodes}
 use Rattle.nodes.specs.Inner.{Used, Live, Shape}
 use Rattle.nodes.proofs.Lists.{zero-or, same-or}
 use Rattle.nodes.proofs.Rows.{climb, used-pos, live-inside, row-length, row-step}
 use Rattle.nodes.proofs.Chain.{ended}
 use Rattle.index_links.specs.Links.{childWith, link}
 use Rattle.index_links.proofs.Chains.{with-found, with-row, with-lone}
-use Rattle.index_links.proofs.Splice.{Pending, Spliced, Room, Placed, placed-shape, placed-tags, placed-pending, new-used, new-row, rows-same, used-to, same-size}
+use Rattle.index_links.proofs.Splice.{Pending, Spliced, Room, Placed, placed-shape, placed-tags, placed-tallies, placed-pending, new-used, new-row, rows-same, used-to, same-size}
 use Rattle.index_links.proofs.Linked.{placed}
-use Rattle.index_insert.specs.Enter.{lowestFree, enter, lacks}
+use Rattle.index_insert.specs.Enter.{lowestFree, enterBelow, lacks}
 use Rattle.index_insert.specs.Inner.{Enters}
 use Rattle.index_links.proofs.Retag as T
 use Rattle.index_insert.proofs.Free.{Lowest, lowest, one-fewer, as-many}
 
 -- One step of entering: a child that is there, and one that is missing
 module _ (N : List ℕ) (p l : ℕ) (ls : List ℕ) where
-  pub enter-old : (t : ℕ) → childWith N p l ≢ 0 → enter N p (l ∷ ls) t ≡ enter N (childWith N p l) ls t
-  unfolding enter
+  pub enter-old : (t : ℕ) → childWith N p l ≢ 0 → enterBelow N p (l ∷ ls) t ≡ enterBelow N (childWith N p l) ls t
+  unfolding enterBelow
   enter-old t n = rw (ne-eqb (childWith N p l) 0 n)
 
-  pub enter-new : (t : ℕ) → childWith N p l ≡ 0 → enter N p (l ∷ ls) t ≡ enter (link N p l (lowestFree N)) (lowestFree N) ls t
-  unfolding enter
+  pub enter-new : (t : ℕ) → childWith N p l ≡ 0 → enterBelow N p (l ∷ ls) t ≡ enterBelow (link N p l (lowestFree N)) (lowestFree N) ls t
+  unfolding enterBelow
   enter-new t z = rw (eq-eqb (childWith N p l) 0 z)
 
   pub lacks-old : childWith N p l ≢ 0 → lacks N p (l ∷ ls) ≡ lacks N (childWith N p l) ls
@@ -159,7 +159,7 @@ module _ {parts : ℕ} {N : List ℕ} {p l : ℕ} {ls : List ℕ} (E : Enters pa
   pub new-lacks : lacks (link N p l (lowestFree N)) (lowestFree N) ls ≡ length ls
   new-lacks = lacks-lone new-shape f (new-used SN is-placed .inside) (is-placed .child-f) ls
 
-  taken-row : rowOf L f ++ ls ≡ rowOf N p ++ (l ∷ ls)
+  pub taken-row : rowOf (link N p l (lowestFree N)) (lowestFree N) ++ ls ≡ rowOf N p ++ (l ∷ ls)
   taken-row = ap (λ (x : List ℕ). x ++ ls) (new-row SN is-placed) ∙ append-assoc (rowOf N p) (l ∷ []) ls
 
   pub new-enters : Enters parts (link N p l (lowestFree N)) (lowestFree N) ls
@@ -179,6 +179,7 @@ pub record Entered (parts : ℕ) (N M : List ℕ) (p : ℕ) (r : List ℕ) (t ne
   pub is : rowOf M end ≡ r
   pub has : tag M end ≡ t
   pub tags : (i : ℕ) → i ≢ end → tag M i ≡ tag N i
+  pub tallies : (i : ℕ) → tally M i ≡ tally N i
   pub used : (i : ℕ) → Used N i → Used M i
   pub rows : (i : ℕ) → Live N i → rowOf M i ≡ rowOf N i
   pub leaf : 0 < t → Pending N p → (i : ℕ) → Used M i → child M i ≡ 0 → 0 < tag M i
@@ -196,6 +197,7 @@ tag-set {N = N} p t S l =
       is = T.retag-row N p t p;
       has = T.retag-here N p t h;
       tags = T.retag-other N p t;
+      tallies = T.retag-tally N p t;
       used = T.retag-to N p t;
       rows = λ i _. T.retag-row N p t i;
       leaf = λ g P i u c. ⊎-elim
@@ -219,6 +221,7 @@ through-old {parts = parts} {N = N} {p = p} {l = l} {ls = ls} E n y =
       is = y .is ∙ old-row E n;
       has = y .has;
       tags = y .tags;
+      tallies = y .tallies;
       used = y .used;
       rows = y .rows;
       leaf = λ g P. y .leaf g (λ i u _ c. ⊎-elim
@@ -246,6 +249,7 @@ through-new {parts = parts} {N = N} {p = p} {l = l} {ls = ls} E z y =
       is = y .is ∙ taken-row E z;
       has = y .has;
       tags = λ i n. y .tags i n ∙ placed-tags S P i;
+      tallies = λ i. y .tallies i ∙ placed-tallies S P i;
       used = λ i u. y .used i (used-to X i u);
       rows = λ i v. y .rows i (λ g. used-to X i (v g)) ∙ rows-same X (climb S) i v;
       leaf = λ g A. y .leaf g (placed-pending S P A);
@@ -253,25 +257,25 @@ through-new {parts = parts} {N = N} {p = p} {l = l} {ls = ls} E z y =
     }
 
 -- the same, of the definitions
-enter-end : {parts : ℕ} (N : List ℕ) (p t : ℕ) → Enters parts N p [] → Entered parts N (enter N p [] t) p (rowOf N p ++ []) t (lacks N p [])
-unfolding enter lacks
+enter-end : {parts : ℕ} (N : List ℕ) (p t : ℕ) → Enters parts N p [] → Entered parts N (enterBelow N p [] t) p (rowOf N p ++ []) t (lacks N p [])
+unfolding enterBelow lacks
 enter-end N p t E = rw (append-nil (rowOf N p)) (tag-set p t (E .shape) (E .live))
 
 by-old : {parts : ℕ} {N : List ℕ} {p l t : ℕ} {ls : List ℕ} (E : Enters parts N p (l ∷ ls)) (n : childWith N p l ≢ 0) →
-    Entered parts N (enter N (childWith N p l) ls t) (childWith N p l) (rowOf N (childWith N p l) ++ ls) t (lacks N (childWith N p l) ls) →
-    Entered parts N (enter N p (l ∷ ls) t) p (rowOf N p ++ (l ∷ ls)) t (lacks N p (l ∷ ls))
+    Entered parts N (enterBelow N (childWith N p l) ls t) (childWith N p l) (rowOf N (childWith N p l) ++ ls) t (lacks N (childWith N p l) ls) →
+    Entered parts N (enterBelow N p (l ∷ ls) t) p (rowOf N p ++ (l ∷ ls)) t (lacks N p (l ∷ ls))
 by-old {N = N} {p = p} {l = l} {t = t} {ls = ls} E n y = rw (enter-old N p l ls t n, lacks-old N p l ls n) (through-old E n y)
 
 by-new : {parts : ℕ} {N : List ℕ} {p l t : ℕ} {ls : List ℕ} (E : Enters parts N p (l ∷ ls)) (z : childWith N p l ≡ 0) →
-    Entered parts (link N p l (lowestFree N)) (enter (link N p l (lowestFree N)) (lowestFree N) ls t) (lowestFree N)
+    Entered parts (link N p l (lowestFree N)) (enterBelow (link N p l (lowestFree N)) (lowestFree N) ls t) (lowestFree N)
     (rowOf (link N p l (lowestFree N)) (lowestFree N) ++ ls) t (lacks (link N p l (lowestFree N)) (lowestFree N) ls) →
-    Entered parts N (enter N p (l ∷ ls) t) p (rowOf N p ++ (l ∷ ls)) t (lacks N p (l ∷ ls))
+    Entered parts N (enterBelow N p (l ∷ ls) t) p (rowOf N p ++ (l ∷ ls)) t (lacks N p (l ∷ ls))
 by-new {N = N} {p = p} {l = l} {t = t} {ls = ls} E z y =
     rw (enter-new N p l ls t z, lacks-new N p l ls z, ← new-lacks E z) (through-new E z y)
 
 -- The law of entering a row below a node
 pub entered : {parts : ℕ} (ls N : List ℕ) (p t : ℕ) → Enters parts N p ls →
-    Entered parts N (enter N p ls t) p (rowOf N p ++ ls) t (lacks N p ls)
+    Entered parts N (enterBelow N p ls t) p (rowOf N p ++ ls) t (lacks N p ls)
 entered [] N p t E = enter-end N p t E
 entered (l ∷ ls) N p t E = ⊎-elim
     (λ (z : childWith N p l ≡ 0). by-new E z (entered ls (link N p l (lowestFree N)) (lowestFree N) t (new-enters E z)))

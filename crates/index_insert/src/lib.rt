@@ -6,7 +6,8 @@ ghost use Rattle.ground.specs.Lists.{from, firstOr};
 ghost use Rattle.kits.specs.Kits.{mostPlace};
 ghost use Rattle.nodes.specs.Nodes.{size, isFree};
 ghost use Rattle.nodes.specs.Inner.{Shape};
-ghost use Rattle.index_insert.specs.Enter.{lowestFree, enter};
+ghost use Rattle.index_links.specs.Links.{nodeOf};
+ghost use Rattle.index_insert.specs.Enter.{lowestFree, enterBelow};
 ghost use Rattle.index_insert.specs.Inner.{Surveyed, Grows};
 use index_links::link;
 use index_links::put_tag;
@@ -69,10 +70,11 @@ pub fn free_from(nodes: &[u16], a: usize) -> usize
 }
 
 // Enters the labels of a row from one on below the node at, which has none of them, and the tag at their end. The search for free nodes starts at
-// the lowest, and goes on from the last one taken.
-pub fn grow(nodes: &mut [u16], row: &[u16], at: usize, from: usize, lowest: usize, t: u16)
+// the lowest, and goes on from the last one taken. The node at the end.
+pub fn grow(nodes: &mut [u16], row: &[u16], at: usize, from: usize, lowest: usize, t: u16) -> usize
     requires { ⌜ Grows (now nodes) at (drop from (now row)) ⌝ ∗ ⌜ lowest ≡ lowestFree (now nodes) ⌝ }
-    ensures { λ _. ⌜ now (nodes .exit) ≡ enter (now (nodes .entry)) at (drop from (now (row .entry))) t ⌝ }
+    ensures { λ r. ⌜ now (nodes .exit) ≡ enterBelow (now (nodes .entry)) at (drop from (now (row .entry))) t ⌝
+        ∗ ⌜ r ≡ nodeOf (now (nodes .exit)) at (drop from (now (row .entry))) ⌝ }
 {
     let mut p = at;
     let mut a = lowest;
@@ -85,4 +87,5 @@ pub fn grow(nodes: &mut [u16], row: &[u16], at: usize, from: usize, lowest: usiz
         d += 1;
     }
     put_tag(nodes, p, t);
+    p
 }

@@ -71,6 +71,7 @@ module _ (N M : List ℕ) {f : ℕ} (q m : ℕ) (some : 0 < m) (low : m < 3) (to
     labels = λ i n. kept i 3 (omega arith) n (omega (arith, low));
     depths = λ i n. kept i 4 (omega arith) n (omega (arith, low));
     tags = λ i n. kept i 5 (omega arith) n (omega (arith, low));
+    tallies = λ i n. kept i 6 (omega arith) n (omega (arith, low));
     childs = λ i h n. goes i 1 (omega arith) n (child-here i h n);
     nexts = λ i h n. goes i 2 (omega arith) n (next-here i h n);
   }
@@ -80,7 +81,7 @@ module _ {parts : ℕ} {N : List ℕ} {p l f : ℕ} (S : Shape parts N) (R : Roo
   M = link N p l f
 
   abbrev bs : List ℕ
-  bs = p ∷ 0 ∷ getD N (linkTo N p l) 0 ∷ l ∷ (depth N p + 1) ∷ 0 ∷ []
+  bs = p ∷ 0 ∷ getD N (linkTo N p l) 0 ∷ l ∷ (depth N p + 1) ∷ 0 ∷ 0 ∷ []
 
   home : p < size N
   home = live-inside (climb S) p (R .live)
@@ -141,6 +142,7 @@ module _ {parts : ℕ} {N : List ℕ} {p l f : ℕ} (S : Shape parts N) (R : Roo
       label-f = mine 3 (omega arith);
       depth-f = mine 4 (omega arith);
       tag-f = mine 5 (omega arith);
+      tally-f = mine 6 (omega arith);
       next-live = rw next-f nl;
       next-mine = rw next-f nm;
       next-more = rw next-f nr;

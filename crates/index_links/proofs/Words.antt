@@ -1,4 +1,4 @@
--- The words of a table after six words were written over a node's, and one link.
+-- The words of a table after all words of a node were written anew, and one link.
 use mathlib.Core.Path.{_≡_, refl, sym, ap, _∙_}
 use mathlib.Core.Logic.{_⊎_, inl, inr, ⊎-elim, _≢_}
 use mathlib.Core.List.{List, [], _∷_, _++_}
@@ -12,14 +12,16 @@ use Rattle.ground.proofs.Laws.{le-or}
 use Rattle.nodes.specs.Nodes.{wordsPerNode, parentWord, at, word, parent, next, label, depth, size}
 use Rattle.index_links.specs.Links.{linkTo, link, unlink}
 
--- six stores in a row
+-- a store for each word
 next-laid : (N : List ℕ) (a : ℕ) (bs : List ℕ) (k b : ℕ) → k ≡ a + length bs → set (laid N a bs) k b ≡ laid N a (bs ++ (b ∷ []))
 next-laid N a bs k b e = rw e (laid-set N a bs b)
 
-pub six-laid : (N : List ℕ) (f u v w x y z : ℕ) {A B C D E F : List ℕ} → A ≡ set N (at f 0) u → B ≡ set A (at f 1) v → C ≡ set B (at f 2) w →
-    D ≡ set C (at f 3) x → E ≡ set D (at f 4) y → F ≡ set E (at f 5) z → F ≡ laid N (at f parentWord) (u ∷ v ∷ w ∷ x ∷ y ∷ z ∷ [])
-six-laid N f u v w x y z hA hB hC hD hE hF =
+pub node-laid : (N : List ℕ) (f u v w x y z k : ℕ) {A B C D E F G : List ℕ} → A ≡ set N (at f 0) u → B ≡ set A (at f 1) v →
+    C ≡ set B (at f 2) w → D ≡ set C (at f 3) x → E ≡ set D (at f 4) y → F ≡ set E (at f 5) z → G ≡ set F (at f 6) k →
+    G ≡ laid N (at f parentWord) (u ∷ v ∷ w ∷ x ∷ y ∷ z ∷ k ∷ [])
+node-laid N f u v w x y z k hA hB hC hD hE hF hG =
     rw (
+      hG,
       hF,
       hE,
       hD,
@@ -32,6 +34,7 @@ six-laid N f u v w x y z hA hB hC hD hE hF =
       next-laid N (at f 0) (u ∷ v ∷ w ∷ []) (at f 3) x (omega arith),
       next-laid N (at f 0) (u ∷ v ∷ w ∷ x ∷ []) (at f 4) y (omega arith),
       next-laid N (at f 0) (u ∷ v ∷ w ∷ x ∷ y ∷ []) (at f 5) z (omega arith),
+      next-laid N (at f 0) (u ∷ v ∷ w ∷ x ∷ y ∷ z ∷ []) (at f 6) k (omega arith),
     )
 
 -- a list with something laid over it, element by element
@@ -59,7 +62,7 @@ module _ (l : List ℕ) (a : ℕ) (bs : List ℕ) (h : a + length bs ≤ length 
       (omega (arith, front)) ∙ getD-drop (a + length bs) l (j - length (take a l) - length bs) 0 ∙ ap (λ (m : ℕ). getD l m 0) e))
 
 -- the words of node f laid anew
-module _ (N : List ℕ) (f : ℕ) (bs : List ℕ) (six : length bs ≡ wordsPerNode) (inside : f < size N) where
+module _ (N : List ℕ) (f : ℕ) (bs : List ℕ) (all-words : length bs ≡ wordsPerNode) (inside : f < size N) where
   room : at f parentWord + length bs ≤ length N
   room = omega arith
 
@@ -80,7 +83,7 @@ module _ (N : List ℕ) (f : ℕ) (bs : List ℕ) (six : length bs ≡ wordsPerN
 module _ (N : List ℕ) (p l f q m : ℕ) (inside : f < size N) (w : linkTo N p l ≡ at q m) (small : m < wordsPerNode) (ne : q ≢ f)
     (home : q < size N) where
   abbrev bs : List ℕ
-  bs = p ∷ 0 ∷ getD N (linkTo N p l) 0 ∷ l ∷ (depth N p + 1) ∷ 0 ∷ []
+  bs = p ∷ 0 ∷ getD N (linkTo N p l) 0 ∷ l ∷ (depth N p + 1) ∷ 0 ∷ 0 ∷ []
 
   L : List ℕ
   L = laid N (at f parentWord) bs
@@ -140,11 +143,11 @@ module _ (M : List ℕ) (f q m : ℕ) (inside : f < size M) (w : linkTo M (paren
 
 -- what the functions leave
 pub link-words : (N : List ℕ) (p l f w a b c d : ℕ) (L : List ℕ) → w ≡ linkTo N p l → a ≡ p → b ≡ getD N w 0 → c ≡ depth N p + 1 → d ≡ f →
-    L ≡ laid N (at f parentWord) (a ∷ 0 ∷ b ∷ l ∷ c ∷ 0 ∷ []) → set L w d ≡ link N p l f
+    L ≡ laid N (at f parentWord) (a ∷ 0 ∷ b ∷ l ∷ c ∷ 0 ∷ 0 ∷ []) → set L w d ≡ link N p l f
 unfolding link
 link-words N p l f w a b c d L hw ha hb hc hd hL = rw (hL, ha, hb, hc, hd, hw)
 
 pub unlink-words : (N : List ℕ) (i w b : ℕ) (L : List ℕ) → w ≡ linkTo N (parent N i) (label N i) → b ≡ next N i →
-    L ≡ laid (set N w b) (at i parentWord) (0 ∷ 0 ∷ 0 ∷ 0 ∷ 0 ∷ 0 ∷ []) → L ≡ unlink N i
+    L ≡ laid (set N w b) (at i parentWord) (0 ∷ 0 ∷ 0 ∷ 0 ∷ 0 ∷ 0 ∷ 0 ∷ []) → L ≡ unlink N i
 unfolding unlink
 unlink-words N i w b L hw hb hL = rw (hL, hb, hw)

@@ -5,21 +5,23 @@ ghost use Prim.Native.Nat.{_<_};
 ghost use lib.ListN.{length, set};
 ghost use Rattle.ground.specs.Limits.{twoLimit};
 ghost use Rattle.ground.specs.Laid.{laid};
-ghost use Rattle.nodes.specs.Nodes.{wordsPerNode, at, parentWord, tagWord, size, children};
-ghost use Rattle.index_links.specs.Links.{childWith, lastBelow, linkTo, link as linked, unlink as unlinked};
-ghost use Rattle.index_links.specs.Inner.{Reads, LinksTo, LinksBehind, Unlinks, wordBehind};
+ghost use Rattle.nodes.specs.Nodes.{wordsPerNode, at, parentWord, tagWord, tallyWord, depth, size, children};
+ghost use Rattle.index_links.specs.Links.{childWith, lastBelow, linkTo, link as linked, unlink as unlinked, oneMore, oneLess, recount};
+ghost use Rattle.index_links.specs.Inner.{Reads, LinksTo, LinksBehind, CountsIn, CountsOut, Unlinks, wordBehind};
 use nodes::CHILD;
 use nodes::DEPTH;
 use nodes::LABEL;
 use nodes::NEXT;
 use nodes::PARENT;
 use nodes::TAG;
+use nodes::TALLY;
 use nodes::WORDS;
 use nodes::child_at;
 use nodes::depth_at;
 use nodes::label_at;
 use nodes::next_at;
 use nodes::parent_at;
+use nodes::tally_at;
 
 // A number that a word can hold, as a word.
 fn narrow16(x: usize) -> u16
@@ -93,10 +95,10 @@ fn set_word(nodes: &mut [u16], i: usize, k: usize, w: u16)
     nodes[i * WORDS + k] = w;
 }
 
-// Writes the words of node f: it has no child and no tag.
+// Writes the words of node f: it has no child and no tag, and no kit at or below it yet.
 fn put_node(nodes: &mut [u16], f: usize, parent: u16, next: u16, label: u16, depth: u16)
     requires { ⌜ f < size (now nodes) ⌝ }
-    ensures { λ _. ⌜ now (nodes .exit) ≡ laid (now (nodes .entry)) (at f parentWord) (parent ∷ 0 ∷ next ∷ label ∷ depth ∷ 0 ∷ []) ⌝ }
+    ensures { λ _. ⌜ now (nodes .exit) ≡ laid (now (nodes .entry)) (at f parentWord) (parent ∷ 0 ∷ next ∷ label ∷ depth ∷ 0 ∷ 0 ∷ []) ⌝ }
 {
     set_word(nodes, f, PARENT, parent);
     set_word(nodes, f, CHILD, 0);
@@ -104,6 +106,7 @@ fn put_node(nodes: &mut [u16], f: usize, parent: u16, next: u16, label: u16, dep
     set_word(nodes, f, LABEL, label);
     set_word(nodes, f, DEPTH, depth);
     set_word(nodes, f, TAG, 0);
+    set_word(nodes, f, TALLY, 0);
 }
 
 // Links node f in as p's child with the label l, behind b, the last child with a label below l; b is 0 where there is none.
@@ -146,4 +149,44 @@ pub fn put_tag(nodes: &mut [u16], i: usize, t: u16)
     ensures { λ _. ⌜ now (nodes .exit) ≡ set (now (nodes .entry)) (at i tagWord) t ⌝ }
 {
     set_word(nodes, i, TAG, t);
+}
+
+// Sets how many kits end at node i or below it.
+fn put_tally(nodes: &mut [u16], i: usize, n: u16)
+    requires { ⌜ i < size (now nodes) ⌝ }
+    ensures { λ _. ⌜ now (nodes .exit) ≡ set (now (nodes .entry)) (at i tallyWord) n ⌝ }
+{
+    set_word(nodes, i, TALLY, n);
+}
+
+// One more kit at node i: there, and at every node above it, the root too.
+pub fn count_in(nodes: &mut [u16], i: usize)
+    requires { ⌜ CountsIn (now nodes) i ⌝ }
+    ensures { λ _. ⌜ now (nodes .exit) ≡ recount oneMore (now (nodes .entry)) (depth (now (nodes .entry)) i) i ⌝ }
+{
+    let mut at = i;
+    while at != 0 {
+        let q = parent_at(nodes, at);
+        let n = tally_at(nodes, at);
+        put_tally(nodes, at, n + 1);
+        at = q;
+    }
+    let n = tally_at(nodes, 0);
+    put_tally(nodes, 0, n + 1);
+}
+
+// One kit less at node i: there, and at every node above it, the root too.
+pub fn count_out(nodes: &mut [u16], i: usize)
+    requires { ⌜ CountsOut (now nodes) i ⌝ }
+    ensures { λ _. ⌜ now (nodes .exit) ≡ recount oneLess (now (nodes .entry)) (depth (now (nodes .entry)) i) i ⌝ }
+{
+    let mut at = i;
+    while at != 0 {
+        let q = parent_at(nodes, at);
+        let n = tally_at(nodes, at);
+        put_tally(nodes, at, n - 1);
+        at = q;
+    }
+    let n = tally_at(nodes, 0);
+    put_tally(nodes, 0, n - 1);
 }

@@ -27,12 +27,6 @@ oneEach [] = true
 oneEach (p ∷ []) = true
 oneEach (p ∷ q ∷ l) = eqb q 1 && oneEach l
 
--- a row begins another
-unfoldable pub begins : List ℕ → List ℕ → Bool
-begins [] b = true
-begins (x ∷ a) [] = false
-begins (x ∷ a) (y ∷ b) = eqb x y && begins a b
-
 -- in how many places at their front two rows agree
 unfoldable pub agreed : List ℕ → List ℕ → ℕ
 agreed [] b = 0

@@ -8,7 +8,7 @@ use lib.ListN.{length}
 use lib.Dec.{eqb}
 use Rattle.ground.specs.Lists.{anyb}
 use Rattle.kits.specs.Kits.{count, mostUnits, mostQuantity}
-use Rattle.nodes.specs.Nodes.{wordsPerNode, mostNodes, word, parent, child, next, label, depth, tag, size, nodesOf, rowOf}
+use Rattle.nodes.specs.Nodes.{wordsPerNode, mostNodes, word, parent, child, next, label, depth, tag, tally, size, nodesOf, rowOf, tagsUnder}
 
 ------------------------------------------------------------------------
 -- The conditions that `nodesSound` decides, as a record, for a table of a right length; the law `sound-exactly` equates the two
@@ -27,7 +27,7 @@ pub record Used (N : List ℕ) (i : ℕ) : Type 0 where
 abbrev pub Live : List ℕ → ℕ → Type 0
 Live N i = 0 < i → Used N i
 
--- six zeros
+-- all its words are 0
 abbrev pub Zero : List ℕ → ℕ → Type 0
 Zero N i = (k : ℕ) → k < wordsPerNode → word N i k ≡ 0
 
@@ -71,11 +71,12 @@ pub record Shape (parts : ℕ) (N : List ℕ) : Type 0 where
   pub good : (i : ℕ) → Used N i → Good parts N i
   pub head : (i : ℕ) → i < size N → Head N i
 
--- With the tags: "a used node without children, other than the root, has a tag; nonzero tags differ"
+-- With the tags: "a used node without children, other than the root, has a tag; nonzero tags differ"; and with what is counted of them
 pub record Sound (parts : ℕ) (N : List ℕ) : Type 0 where
   pub shape : Shape parts N
   pub leaf : (i : ℕ) → Used N i → child N i ≡ 0 → 0 < tag N i
   pub unlike : (i j : ℕ) → i < size N → j < size N → 0 < tag N i → tag N i ≡ tag N j → i ≡ j
+  pub tallies : (i : ℕ) → Live N i → tally N i ≡ tagsUnder N i
 
 ------------------------------------------------------------------------
 -- Following links: on a table of good shape the walk by first child and next sibling meets every used node once, in listing order

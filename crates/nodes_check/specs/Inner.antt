@@ -2,12 +2,16 @@
 -- `nodes_sound` decides `nodesSound` (nodes, specs/Sound): what each of its passes asks on the way, of a node by itself, of the chains
 -- together, of the equal labels on a path, of the tags.
 use mathlib.Core.Path.{_≡_}
-use mathlib.Core.List.{List}
-use Prim.Native.Nat.{ℕ, _+_, _/_, _%_, _^_, _<_, _≤_}
+use mathlib.Core.Bool.{Bool, true, cond}
+use mathlib.Core.List.{List, map}
+use Prim.Native.Nat.{ℕ, _+_, _*_, _/_, _%_, _^_, _<_, _≤_}
+use lib.Dec.{eqb}
 use lib.ListN.{length}
+use Rattle.ground.specs.Limits.{twoLimit}
 use Rattle.kits.specs.Kits.{count, mostUnits, mostQuantity}
-use Rattle.nodes.specs.Nodes.{parent, child, next, label, depth, tag, size, rowOf, chain}
-use Rattle.nodes.specs.Inner.{Used, Live, Zero, OnChain, Head, Links}
+use Rattle.nodes.specs.Nodes.{mostNodes, parent, child, next, label, depth, tag, tally, size, tagged, rowOf, chain}
+use Rattle.nodes.specs.Inner.{Used, Live, Zero, OnChain, Head, Links, total}
+use Rattle.nodes_check.specs.declared.Chain.{Chain}
 
 -- what is asked of every node of the table
 pub record Each (N : List ℕ) (P : ℕ → Type 0) : Type 0 where
@@ -45,8 +49,9 @@ pub record Spot (parts : ℕ) (N : List ℕ) (i : ℕ) : Type 0 where
 abbrev pub Spots : ℕ → List ℕ → Type 0
 Spots parts N = Each N (Spot parts N)
 
--- every link may be followed, and a chain's nodes have one parent: so it is where every node is right by itself
+-- every link may be followed, and a chain's nodes have one parent: so it is in a table of a right length where every node is right by itself
 pub record Kin (N : List ℕ) : Type 0 where
+  pub most : size N ≤ mostNodes
   pub links : Links N
   pub back : (i : ℕ) → i < size N → 0 < child N i → parent N (child N i) ≡ i
   pub same : (i : ℕ) → Used N i → 0 < next N i → parent N (next N i) ≡ parent N i
@@ -58,9 +63,35 @@ pub record Kin (N : List ℕ) : Type 0 where
 abbrev pub chainLength : List ℕ → ℕ → ℕ
 chainLength N h = length (chain N (size N) h)
 
+-- how many tagged nodes these say are at or below them
+abbrev pub chainTags : List ℕ → ℕ → ℕ
+chainTags N h = total (map (tally N) (chain N (size N) h))
+
+-- no chain says more, whatever its words are
+abbrev pub mostSum : ℕ
+mostSum = mostNodes * twoLimit
+
+-- what a walk along the chain from a link on tells
+pub record Walked (N : List ℕ) (h : ℕ) (c : Chain) : Type 0 where
+  pub tells-nodes : c .nodes ≡ chainLength N h
+  pub tells-tags : c .tags ≡ chainTags N h
+  pub bounded : c .tags ≤ mostSum
+
+-- "the number of tagged nodes at or below it", where the tallies of its chain are right: one for its own tag, and what these say
+unfoldable pub tallied : List ℕ → ℕ → Bool
+tallied N i = eqb (tally N i) (cond (tagged N i) 1 0 + chainTags N (child N i))
+
+abbrev pub Tallied : List ℕ → ℕ → Type 0
+Tallied N i = tallied N i ≡ true
+
 -- "every used node but the root is found on its parent's chain"
 pub record AllChained (N : List ℕ) : Type 0 where
   pub each : (i : ℕ) → Used N i → OnChain N (child N (parent N i)) i
+
+-- with the tallies along them, of every node
+pub record Chains (N : List ℕ) : Type 0 where
+  pub chained : AllChained N
+  pub tallies : Each N (Tallied N)
 
 ------------------------------------------------------------------------
 -- Equal labels on a path

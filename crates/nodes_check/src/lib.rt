@@ -1,13 +1,13 @@
-// The check of a node table: document 01, "The table is sound when". Each node by itself first, so that links may be followed; then each chain,
-// once; then the equal labels on paths; then the tags. Its steps are in proportion to the number of nodes, whatever the words are.
+// The check of a node table: document 01, "The table is sound when". Each node by itself first, so that links may be followed; then each chain
+// once, with the tallies along it; then the equal labels on paths; then the tags. Its steps are in proportion to the number of nodes, whatever the words are.
 ghost use mathlib.Core.Path.{_≡_};
 ghost use mathlib.Core.Bool.{true};
-ghost use Prim.Native.Nat.{_+_, _<_, _/_};
+ghost use Prim.Native.Nat.{_+_, _<_, _≤_, _/_};
 ghost use Rattle.ground.specs.Inner.{Says};
-ghost use Rattle.nodes.specs.Nodes.{child, next, size, nodesLength};
+ghost use Rattle.nodes.specs.Nodes.{mostNodes, child, next, size, nodesLength};
 ghost use Rattle.nodes.specs.Sound.{nodesSound};
 ghost use Rattle.nodes.specs.Inner.{Head, Root, Used, Live, Climb, Siblings, Links};
-ghost use Rattle.nodes_check.specs.Inner.{Sib, Under, Ok, Spot, Spots, Kin, chainLength, AllChained, Few, FewIfLast, Fews, Unlike, wordBits, bit, With};
+ghost use Rattle.nodes_check.specs.Inner.{Sib, Under, Ok, Spot, Spots, Kin, Walked, chainTags, mostSum, tallied, Chains, Few, FewIfLast, Fews, Unlike, wordBits, bit, With};
 use ground::wide16;
 use kits::MOST_QUANTITY;
 use kits::MOST_UNITS;
@@ -19,6 +19,7 @@ use nodes::next_at;
 use nodes::node_count;
 use nodes::parent_at;
 use nodes::tag_at;
+use nodes::tally_at;
 
 // Tags seen are marked by bits, so many to a word, in so many words: one bit for each tag there can be.
 const WORD_BITS: usize = 64;
@@ -172,33 +173,57 @@ fn spots_ok(nodes: &[u16], parts: u16) -> bool
     true
 }
 
-// How many nodes the chain that starts at the link h has.
-fn chain_length(nodes: &[u16], h: usize) -> usize
-    requires { ⌜ Siblings (now nodes) ⌝ ∗ ⌜ Live (now nodes) h ⌝ }
-    ensures { λ r. ⌜ r ≡ chainLength (now (nodes .entry)) h ⌝ }
+// What a chain comes to: how many nodes it has, and how many tagged nodes these say are at or below them.
+struct Chain {
+    pub nodes: usize,
+    pub tags: usize,
+}
+
+// Walks the chain that starts at the link h. No node comes twice, so the sum of their words is bounded, damaged ones too.
+fn walk_chain(nodes: &[u16], h: usize) -> Chain
+    requires { ⌜ Siblings (now nodes) ⌝ ∗ ⌜ Live (now nodes) h ⌝ ∗ ⌜ size (now nodes) ≤ mostNodes ⌝ }
+    ensures { λ r. ⌜ Walked (now (nodes .entry)) h r ⌝ }
 {
     let mut at = h;
     let mut k = 0;
+    let mut sum = 0;
     while at != 0 {
         let s = next_at(nodes, at);
+        sum += wide16(tally_at(nodes, at));
         k += 1;
         at = s;
     }
-    k
+    Chain {
+        nodes: k,
+        tags: sum,
+    }
 }
 
-// "every used node but the root is found on its parent's chain": each chain is walked once. A node is on no chain but its parent's, and there
-// once, so all are found exactly when the chains together have as many nodes as are used.
+// "the number of tagged nodes at or below it": one for its own tag, and what the nodes of its chain say.
+fn tally_ok(nodes: &[u16], i: usize, below: usize) -> bool
+    requires { ⌜ i < size (now nodes) ⌝ ∗ ⌜ below ≡ chainTags (now nodes) (child (now nodes) i) ⌝ ∗ ⌜ below ≤ mostSum ⌝ }
+    ensures { λ r. ⌜ r ≡ tallied (now (nodes .entry)) i ⌝ }
+{
+    let own = (tag_at(nodes, i) != 0) as usize;
+    wide16(tally_at(nodes, i)) == own + below
+}
+
+// "every used node but the root is found on its parent's chain", and every tally is right by its chain: each chain is walked once. A
+// node is on no chain but its parent's, and there once, so all are found exactly when the chains together have as many nodes as are used.
 fn chains_ok(nodes: &[u16]) -> bool
     requires { ⌜ Kin (now nodes) ⌝ }
-    ensures { λ r. ⌜ Says (AllChained (now (nodes .entry))) r ⌝ }
+    ensures { λ r. ⌜ Says (Chains (now (nodes .entry))) r ⌝ }
 {
     let n = node_count(nodes);
     let mut i = 0;
     let mut used: usize = 0;
     let mut met: usize = 0;
     while i < n {
-        met += chain_length(nodes, child_at(nodes, i));
+        let chain = walk_chain(nodes, child_at(nodes, i));
+        if !tally_ok(nodes, i, chain.tags) {
+            return false;
+        }
+        met += chain.nodes;
         let l = label_at(nodes, i);
         i += 1;
         if l != 0 {

@@ -52,6 +52,7 @@ pub fn call(
         b'k' => tells(catalogue::insert(reg, nodes, list, ask.a)),
         b'f' => tells(catalogue::find(reg, nodes, list)),
         b'd' => tells(catalogue::delete(reg, nodes, list)),
+        b'#' => tells(catalogue::count_beginning(reg, nodes, list)),
         b'w' => tells(catalogue::any_within(reg, nodes, list)),
         b'c' => tells(catalogue::any_containing(reg, nodes, list)),
         b'W' => tells(catalogue::all_within(reg, nodes, list, places)),

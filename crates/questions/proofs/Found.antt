@@ -69,10 +69,6 @@ module _ {parts : ℕ} {N : List ℕ} (S : Shape parts N) (test : List ℕ → B
         (λ i m. mem-from (size N) 0 i (omega arith) (omega (arith, live-inside (climb S) i (walk-only S i m)))),
   )
 
-  -- so a walk sets down no more words, one for each node found
-  pub no-more-than-nodes : (f : ℕ → ℕ) {o o′ : List ℕ} {n r : ℕ} → Put o 0 (map f (foundIn test N)) r o′ → n ≡ size N → r ≤ n
-  no-more-than-nodes f w e = omega (arith, w .behind, length-map (foundIn test N) f, found-few)
-
   -- where no row passes that goes on from the node above with a label of at least this one, none does here, below or behind
   pub found-dead : (i : ℕ) → Live N i →
       (0 < i → (x : ℕ) (s : List ℕ) → label N i ≤ x → x ≤ parts → test (rowOf N (parent N i) ++ (x ∷ s)) ≡ false) → foundFrom test N i ≡ []
@@ -124,6 +120,21 @@ pub kits-found : {parts : ℕ} {N : List ℕ} → Shape parts N → (test : List
     ((k : Kit) → List·Memᴰ k (held N) → q k ≡ test (k .row)) → keep q (held N) ≡ map (kitAt N) (foundIn test N)
 unfolding foundIn onRow
 kits-found {N = N} S test q f = keep-same q (onRow test) (held N) f ∙ ap (keep (onRow test)) (held-is-walk S) ∙ walk-kits test N (walkAll N)
+
+-- so a walk sets down no more words, one for each node found, than there are kits
+pub no-more-than-kits : {parts : ℕ} {N : List ℕ} → Shape parts N → (test : List ℕ → Bool) (f : ℕ → ℕ) {o o′ : List ℕ} {n r : ℕ} →
+    Put o 0 (map f (foundIn test N)) r o′ → n ≡ length (held N) → r ≤ n
+unfolding onRow
+no-more-than-kits {N = N} S test f w e =
+    let is = foundIn test N in
+    omega (
+      arith,
+      w .behind,
+      length-map is f,
+      length-map is (kitAt N),
+      ap length (kits-found S test (onRow test) (λ k m. refl)),
+      keep-short (onRow test) (held N),
+    )
 
 pub tags-at : (N xs : List ℕ) → tagsOf (map (kitAt N) xs) ≡ map (tag N) xs
 unfolding tagsOf kitAt

@@ -15,6 +15,7 @@ use Rattle.nodes.specs.Held.{Kit}
 use Rattle.nodes.proofs.Fields.{length-sized}
 use Rattle.nodes.proofs.Rows.{climb, row-root}
 use Rattle.nodes.proofs.Sorted.{every-mem}
+use Rattle.nodes.proofs.Tallies.{tally-few}
 use Rattle.index_insert.specs.Enter.{enter, enterAll}
 use Rattle.index_insert.specs.Inner.{Enters}
 use Rattle.index_append.specs.Inner.{LastEntered, Appendable}
@@ -51,7 +52,7 @@ enter-none : (N : List ℕ) → enterAll N [] ≡ N
 unfolding enterAll
 enter-none N = refl
 
-enter-first : (N : List ℕ) (k : Kit) (ks : List Kit) → enterAll N (k ∷ ks) ≡ enterAll (enter N 0 (k .row) (k .tag)) ks
+enter-first : (N : List ℕ) (k : Kit) (ks : List Kit) → enterAll N (k ∷ ks) ≡ enterAll (enter N (k .row) (k .tag)) ks
 unfolding enterAll
 enter-first N k ks = refl
 
@@ -130,13 +131,13 @@ module _ {s : List ℕ} {from m : ℕ} {Z nodes : List ℕ} {prev : Row} {at n k
 
       pub may-append : ((prev .len ≤ mostUnits) × (row .len ≤ mostUnits)) × Appendable nodes n (unitsIn prev) (unitsIn row)
       may-append =
-          ((F .short, may-be), subst (Appendable nodes n (unitsIn prev)) (sym is-row) (upcoming-ready upcoming-now enters))
+          ((F .short, may-be), subst (Appendable nodes n (unitsIn prev)) (sym is-row) (upcoming-ready upcoming-now enters (tally-few (F .rest .sound))))
 
-      pub filling-on : {M : List ℕ} {n′ : ℕ} → M ≡ enter nodes 0 (unitsIn row) t → LastEntered M n′ (unitsIn row) → (r : ℕ) →
+      pub filling-on : {M : List ℕ} {n′ : ℕ} → M ≡ enter nodes (unitsIn row) t → LastEntered M n′ (unitsIn row) → (r : ℕ) →
           r ≡ recordEnd s at → Filling s from m Z M row r n′ (k + 1)
       filling-on {M} {n′} p l r q =
           let u : r ≡ place = q ∙ sym (end-whole s at record-whole) ∙ (omega (arith, size-at s at)) in
-          let v : M ≡ enter nodes 0 (kit .row) (kit .tag) = rw (is-row, is-tag) at p in
+          let v : M ≡ enter nodes (kit .row) (kit .tag) = rw (is-row, is-tag) at p in
           rw u (record {
             rest = rw v (fill-next next);
             goes =

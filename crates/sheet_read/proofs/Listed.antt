@@ -159,14 +159,14 @@ kits-fillable n p ks N h g d r l room =
 
 -- The next of them is inserted, so that the table is what it enters
 inserting-enters : {p : ℕ} {T : List Kit} {N : List ℕ} {k : Kit} {ks : List Kit} → Fillable p T N (k ∷ ks) →
-    memory (insertingRow (k .row) (k .tag) N) N ≡ enter N 0 (k .row) (k .tag)
+    memory (insertingRow (k .row) (k .tag) N) N ≡ enter N (k .row) (k .tag)
 unfolding insertingRow entryRefusals answer decide memory
 inserting-enters {N = N} {k = k} F =
     let A : Accepted (k .row) (k .tag) N = acceptable F in
     let f = A .fresh in
     let b = A .unborne in
     let r = le-ltb (length (freeNodes N)) (lacks N 0 (k .row)) (A .room) in
-    leaves-done (answer (insertingRow (k .row) (k .tag) N)) (lacks N 0 (k .row)) N (enter N 0 (k .row) (k .tag)) (rw (f, b, r))
+    leaves-done (answer (insertingRow (k .row) (k .tag) N)) (lacks N 0 (k .row)) N (enter N (k .row) (k .tag)) (rw (f, b, r))
 
 -- kits inserted one after the other
 unfoldable pub insertAll : List ℕ → List Kit → List ℕ
@@ -177,4 +177,4 @@ pub inserted-in-order : {p : ℕ} {T : List Kit} (ks : List Kit) (N : List ℕ) 
 unfolding enterAll insertAll
 inserted-in-order [] N F = refl
 inserted-in-order (k ∷ ks) N F =
-    inserted-in-order ks (enter N 0 (k .row) (k .tag)) (fill-next F) ∙ ap (λ (M : List ℕ). insertAll M ks) (sym (inserting-enters F))
+    inserted-in-order ks (enter N (k .row) (k .tag)) (fill-next F) ∙ ap (λ (M : List ℕ). insertAll M ks) (sym (inserting-enters F))

@@ -1,11 +1,11 @@
 -- Laws of the records of nodes and of the numbers in slots.
 use mathlib.Core.Path.{_≡_, refl, ap, sym, _∙_}
 use mathlib.Core.List.{List, [], _∷_, _++_, map, append-assoc, append-nil}
-use Prim.Native.Nat.{ℕ, suc, _+_, _-_, _*_, _≤_, _<_}
+use Prim.Native.Nat.{ℕ, _+_, _-_, _*_, _≤_, _<_}
 use native.Mathlib.Omega.{arith}
 use lib.ListN.{length, length-append}
 use borrow.Author.Tests.{eq-eqb, ne-eqb}
-use Rattle.ground.specs.Lists.{keep, from, concat}
+use Rattle.ground.specs.Lists.{keep, concat}
 use Rattle.ground.proofs.Laws.{from-step, from-end, map-append}
 use Rattle.kits.specs.Kits.{mostUnits, mostPlace}
 use Rattle.register.specs.Register.{numberAt}
@@ -93,17 +93,3 @@ module _ (N : List ℕ) (S : Shape mostPlace N) (i : ℕ) (u : Live N i) where
   pub own-length : (t : ℕ) → t ≡ tag N i → (t ≡ 0 → ⊥) → length (ownRecord N i) ≡ linesAt + endOf (nodeRow N i) .at
   own-length t e f =
       omega (arith, ap length (own-record t e f), record-long t (rowLines N i), row-long)
-
--- how many kits end at nodes, by number
-module _ (N : List ℕ) (n i : ℕ) (h : i < n) where
-  pub kits-yes : (tag N i ≡ 0 → ⊥) → length (kitsAt N (from i (n - i))) ≡ suc (length (kitsAt N (from (i + 1) (n - (i + 1)))))
-  unfolding kitsAt keep tagged
-  kits-yes f = rw (from-step n i h, ne-eqb (tag N i) 0 f)
-
-  pub kits-no : tag N i ≡ 0 → length (kitsAt N (from i (n - i))) ≡ length (kitsAt N (from (i + 1) (n - (i + 1))))
-  unfolding kitsAt keep tagged
-  kits-no e = rw (from-step n i h, eq-eqb (tag N i) 0 e)
-
-pub kits-end : (N : List ℕ) (n i : ℕ) → n ≤ i → length (kitsAt N (from i (n - i))) ≡ 0
-unfolding kitsAt keep
-kits-end N n i h = rw (from-end n i h)

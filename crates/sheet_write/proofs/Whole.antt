@@ -2,12 +2,12 @@
 use mathlib.Core.Path.{_≡_, refl, ap, sym, _∙_}
 use mathlib.Core.Logic.{⊎-elim, _≢_}
 use mathlib.Core.Bool.{Bool, true, false, cond}
-use mathlib.Core.List.{List, [], _∷_, _++_, map, append-assoc}
+use mathlib.Core.List.{List, [], _∷_, _++_, append-assoc}
 use Prim.Native.Nat.{ℕ, suc, _+_, _*_, _≤_, _<_}
 use native.Mathlib.Omega.{arith}
 use lib.ListN.{length, length-append}
 use Rattle.ground.specs.Laid.{Put}
-use Rattle.ground.specs.Lists.{keep, from}
+use Rattle.ground.specs.Lists.{from}
 use Rattle.ground.specs.Calls.{done, refused, Promise}
 use Rattle.ground.proofs.Laws.{length-from}
 use Rattle.ground.proofs.Calls.{set-down-full, set-down-done}
@@ -15,9 +15,9 @@ use Rattle.kits.specs.Kits.{before, mostPlace}
 use Rattle.register.specs.Register.{partsOf}
 use Rattle.register.specs.Inner.{Ready}
 use Rattle.register.proofs.Sound.{ready-holds, holds-parts}
-use Rattle.nodes.specs.Nodes.{tag, child, next, size, nodesOf, mostNodes, tagged, isUsed, usedNodes}
+use Rattle.nodes.specs.Nodes.{tag, child, next, size, nodesOf, mostNodes, isUsed, usedNodes}
 use Rattle.nodes.specs.Inner.{Shape, Live, walk, walkAll}
-use Rattle.nodes.specs.Held.{Kit, putKit, inOrder, kitAt, held}
+use Rattle.nodes.specs.Held.{Kit, putKit, inOrder, held}
 use Rattle.nodes.proofs.Beginnings.{used-walk}
 use Rattle.nodes.proofs.Held.{held-is-walk}
 use Rattle.nodes.proofs.Lists.{same-or}
@@ -47,10 +47,6 @@ order-many [] = refl
 order-many (k ∷ ks) = put-more k (inOrder ks) ∙ (omega (arith, order-many ks))
 
 module _ (N : List ℕ) where
-  pub held-many : length (held N) ≡ length (kitsAt N (nodesOf N))
-  unfolding held kitsAt
-  held-many = order-many (map (kitAt N) (keep (tagged N) (nodesOf N)))
-
   pub held-records : Shape mostPlace N → recordItems placeBytes (held N) ≡ recordsAt N (walkAll N)
   unfolding recordsAt kitsAt
   held-records S = ap (recordItems placeBytes) (held-is-walk S)

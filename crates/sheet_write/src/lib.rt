@@ -11,12 +11,12 @@ ghost use Rattle.ground.specs.Limits.{mostParts, byteLimit};
 ghost use Rattle.register.specs.Register.{slotBytes, slotCount, numberAt};
 ghost use Rattle.register.specs.Number.{longestNumber};
 ghost use Rattle.register.specs.Inner.{Ready, Short};
-ghost use Rattle.nodes.specs.Nodes.{parent, nodesOf, mostNodes};
+ghost use Rattle.nodes.specs.Nodes.{parent, mostNodes};
 ghost use Rattle.nodes.specs.Inner.{walkAll, Live, Shape, Sound};
 ghost use Rattle.sheet.specs.Sheet.{placeBytes, lineBytes, contentsOf, encode};
 ghost use Rattle.sheet.specs.Calls.{writingOf};
 ghost use Rattle.sheet.specs.Inner.{mostItem, mostRecord};
-ghost use Rattle.sheet_write.specs.Inner.{nodeRow, headItems, numbersFrom, Counted, kitsAt, recordsAt, ownRecord, recordsFrom};
+ghost use Rattle.sheet_write.specs.Inner.{nodeRow, headItems, numbersFrom, Counted, recordsAt, ownRecord, recordsFrom};
 ghost use Rattle.sheet_write.specs.Inner.{noLine, endItem, withUnit, endOf, rowBytes, rowLines, Stands, EndsIn, Kept, endLine, Reached, StandsAbove};
 use answers::Answer;
 use ground::copy_in;
@@ -26,8 +26,8 @@ use kits::MOST_UNITS;
 use nodes::child_at;
 use nodes::label_at;
 use nodes::next_at;
-use nodes::node_count;
 use nodes::tag_at;
+use nodes::tally_at;
 use register::SLOT_BYTES;
 use register::count_parts;
 use repeats::LENGTH_BYTES;
@@ -247,24 +247,6 @@ fn records_size(nodes: &[u16]) -> usize
         )
 }
 
-// How many kits there are.
-fn count_kits(nodes: &[u16]) -> u16
-    requires { ⌜ Shape mostPlace (now nodes) ⌝ }
-    ensures { λ r. ⌜ r ≡ length (kitsAt (now (nodes .entry)) (nodesOf (now (nodes .entry)))) ⌝ }
-{
-    let n = node_count(nodes);
-    let mut count = 0;
-    let mut i = 0;
-    while i < n {
-        let tag = tag_at(nodes, i);
-        i += 1;
-        if tag != 0 {
-            count += 1;
-        }
-    }
-    count
-}
-
 // The mark, the version and the part count.
 fn put_head(out: &mut [u8], parts: u16) -> usize
     requires { ⌜ length (headItems parts) ≤ length (now out) ⌝ }
@@ -328,6 +310,6 @@ pub fn write_sheet(reg: &[u8], nodes: &[u16], out: &mut [u8]) -> Answer
     if out.len() < need {
         return Answer::NoRoom(need);
     }
-    let sheet = Sheet::new(parts as u16, count_kits(nodes));
+    let sheet = Sheet::new(parts as u16, tally_at(nodes, 0));
     Answer::Done(put_items(out, reg, nodes, sheet))
 }

@@ -21,8 +21,8 @@ use kits::quantities_of;
 use nodes::child_at;
 use nodes::label_at;
 use nodes::next_at;
-use nodes::node_count;
 use nodes::tag_at;
+use questions::kit_count;
 use questions::put_word;
 use questions::quantity;
 
@@ -128,8 +128,8 @@ fn set_almost(
     list_almost(nodes, bin, tags, shorts, n, d, child_at(nodes, 0), none)
 }
 
-// All kits with a shortfall of at most d: their tags in listing order, and their shortfalls in step. Where the outputs have room for as many kits
-// as there are nodes they are written at once; otherwise they are counted first, so that a refusal writes nothing.
+// All kits with a shortfall of at most d: their tags in listing order, and their shortfalls in step. Where both outputs have
+// room for all kits they are written at once; shorter ones are counted for first, so that a refusal writes nothing.
 pub fn all_almost(
     nodes: &[u16],
     bin: &[u16],
@@ -143,7 +143,7 @@ pub fn all_almost(
 {
     let amounts = quantities_of(bin);
     let room = least(tags.len(), shorts.len());
-    if node_count(nodes) <= room {
+    if kit_count(nodes) <= room {
         return Answer::Done(set_almost(nodes, &amounts, d, tags, shorts));
     }
     let need = set_almost(nodes, &amounts, d, &mut tags[0..0], &mut shorts[0..0]);

@@ -1,10 +1,11 @@
--- The row before is that of the last end, and the first places of a row, as many as it has units, are its units.
+-- The row before is that of the last end, and the first places of a row, as many as it has units, are its units. The new row's end is the last node.
 use mathlib.Core.Path.{_≡_, sym, _∙_}
 use native.Mathlib.Omega.{arith}
 use lib.ListN.{length, length-map}
 use lib.Seq.{length-take-le}
 use Rattle.kits.specs.Kits.{mostUnits}
 use Rattle.index_append.proofs.Fork.{agrees-own}
+use Rattle.index_append.proofs.Counted.{last-counts, last-counted}
 use borrow.Author.Needs.{needs}
 use Rattle.index_append.proofs.append_row.Statement.{statement}
 use Rattle.index_append.proofs.append_row.Tie as tie
@@ -30,11 +31,37 @@ append-requires c κs =
     let start : tie.Start = search in
     agrees-own (start .pre .1) (at-agree .agree .ensures)
 
+sub-count-in : tie.Need-sub-count-in
+sub-count-in c = let at-append : tie.After-append = search in omega (arith, at-append .append .ensures .1 .packed .some)
+
+count-in-requires : tie.Need-count-in-requires
+count-in-requires c κs =
+    let at-append : tie.After-append = search in
+    let start : tie.Start = search in
+    last-counts (start .args .t) (start .pre .1) (at-append .append .ensures .0) (at-append .append .ensures .1)
+
 same-length : tie.Need-same-length
-same-length c = c .before .before .append .kept .0
+same-length c =
+    let at-count-in : tie.After-count-in = search in
+    let at-append : tie.After-append = search in
+    at-count-in .count-in .kept .0 ∙ at-append .append .kept .0
 
 returns : tie.Need-returns
-returns c = c .before .before .append .ensures
+returns c =
+    let at-count-in : tie.After-count-in = search in
+    let at-append : tie.After-append = search in
+    let start : tie.Start = search in
+    last-counted (start .args .t) (start .pre .1) (at-append .append .ensures .0) (at-append .append .ensures .1) (at-count-in .count-in .ensures)
 
 pub append-row-spec : {M : Type 1} → statement M
-append-row-spec = tie.close (tie.spec agree-requires array-share-prefix-places slice-aggregate-append append-requires same-length returns)
+append-row-spec =
+    tie.close
+    (tie.spec
+    agree-requires
+    array-share-prefix-places
+    slice-aggregate-append
+    append-requires
+    sub-count-in
+    count-in-requires
+    same-length
+    returns)

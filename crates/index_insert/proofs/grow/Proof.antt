@@ -3,7 +3,7 @@ use mathlib.Core.Path.{_∙_}
 use Prim.Native.Nat.{_-_}
 use native.Mathlib.Omega.{arith}
 use lib.ListN.{length}
-use Rattle.index_insert.proofs.Growing.{Growing, grow-start, grow-links, grow-next, grow-end, grow-home, f-inside}
+use Rattle.index_insert.proofs.Growing.{Growing, grow-start, grow-links, grow-next, grow-end, grow-node, grow-home, f-inside}
 use Rattle.index_insert.proofs.grow.Statement.{statement}
 use Rattle.index_insert.proofs.grow.Tie as tie
 
@@ -65,8 +65,10 @@ same-length c =
 returns : tie.Need-returns Inv-loop μ-loop
 returns c =
     let after-loop : tie.After-loop Inv-loop μ-loop = search in
-    let at-loop : tie.At-loop Inv-loop μ-loop = search in
-    grow-end (at-loop .loop .inv) (after-loop .loop-test .left) (c .before .before .put-tag .ensures)
+    let at-loop : tie.At-loop Inv-loop μ-loop = search in (
+      grow-end (at-loop .loop .inv) (after-loop .loop-test .left) (c .before .before .put-tag .ensures),
+      grow-node (at-loop .loop .inv) (after-loop .loop-test .left) (c .before .before .put-tag .ensures),
+    )
 
 pub grow-spec : {M : Type 1} → statement M
 grow-spec =

@@ -1,13 +1,14 @@
 -- What is counted is what the walk sets down, so the need is the sheet's length; room decides.
-use mathlib.Core.Path.{_≡_, sym, _∙_, refl}
+use mathlib.Core.Path.{_≡_, _∙_, refl}
 use Prim.Native.Nat.{_+_}
 use native.Mathlib.Omega.{arith}
 use lib.ListN.{length}
 use Rattle.ground.proofs.Put.{put-length}
 use Rattle.register.proofs.Sound.{ready-short}
 use Rattle.nodes.specs.Held.{held}
+use Rattle.nodes.proofs.Tallies.{root-counts}
 use Rattle.sheet.specs.Sheet.{encode, contentsOf}
-use Rattle.sheet_write.proofs.Whole.{sheet-size, held-many, writing-12, writing-done}
+use Rattle.sheet_write.proofs.Whole.{sheet-size, writing-12, writing-done}
 use Rattle.sheet_write.proofs.write_sheet.Statement.{statement}
 use Rattle.sheet_write.proofs.write_sheet.Tie as tie
 
@@ -62,10 +63,10 @@ returns c =
 cast-new : tie.Need-cast-new
 cast-new c = omega arith
 
-count-kits-requires : tie.Need-count-kits-requires
-count-kits-requires c κs =
+tally-at-requires : tie.Need-tally-at-requires
+tally-at-requires c κs =
     let start : tie.Start = search in
-    start .pre .1 .shape
+    start .pre .1 .shape .sized .some-node
 
 new-requires : tie.Need-new-requires
 new-requires c κs = tt
@@ -83,7 +84,7 @@ put-items-requires c κs =
           record {
             parts = c .before .new .ensures .0 ∙ at-count-parts .count-parts .ensures .0;
             kits = c .before .new .ensures .1
-                ∙ c .before .before .count-kits .ensures ∙ sym (held-many (start .args .nodes .now));
+                ∙ c .before .before .tally-at .ensures ∙ root-counts (start .pre .1);
           },
           omega
               (arith, need at-records-size, else1 .if1 .left),
@@ -118,7 +119,7 @@ write-sheet-spec =
     add-need-3
     returns
     cast-new
-    count-kits-requires
+    tally-at-requires
     new-requires
     put-items-requires
     same-length

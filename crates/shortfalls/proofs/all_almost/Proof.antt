@@ -1,9 +1,9 @@
--- With room for as many kits as there are nodes they are set down at once; otherwise counted where nothing is lent, and then
+-- With room for all kits they are set down at once; otherwise counted where nothing is lent, and then
 -- refused or set down.
 use mathlib.Core.Path.{refl}
 use native.Mathlib.Omega.{arith}
 use Rattle.nodes.specs.Nodes.{tag}
-use Rattle.questions.proofs.Found.{no-more-than-nodes}
+use Rattle.questions.proofs.Found.{no-more-than-kits}
 use Rattle.questions.proofs.Answered.{none-lent}
 use Rattle.shortfalls.specs.Inner.{almost}
 use Rattle.shortfalls.proofs.Answered.{tags-are, shorts-are, all-refused, all-done}
@@ -17,8 +17,8 @@ quantities-of-requires c κs = search needs
 least-requires : tie.Need-least-requires
 least-requires c κs = search needs
 
-node-count-requires : tie.Need-node-count-requires
-node-count-requires c κs = search needs
+kit-count-requires : tie.Need-kit-count-requires
+kit-count-requires c κs = search needs
 
 set-almost-requires : tie.Need-set-almost-requires
 set-almost-requires c κs = search needs
@@ -33,7 +33,7 @@ returns : tie.Need-returns
 returns c =
     let at-set-almost : tie.After-set-almost = search in
     let then1 : tie.Then1 = search in
-    let at-node-count : tie.After-node-count = search in
+    let at-kit-count : tie.After-kit-count = search in
     let at-least : tie.After-least = search in
     let at-quantities-of : tie.After-quantities-of = search in
     let start : tie.Start = search in
@@ -44,8 +44,8 @@ returns c =
     all-done ts ss (a .tags .now) (a .shorts .now) (at-least .least .ensures) (at-set-almost .set-almost .ensures) refl refl
     (omega (
       arith,
-      no-more-than-nodes S (almost (at-quantities-of .quantities-of .result) (a .d)) (tag (a .nodes .now)) (at-set-almost .set-almost .ensures .one)
-          (at-node-count .node-count .ensures),
+      no-more-than-kits S (almost (at-quantities-of .quantities-of .result) (a .d)) (tag (a .nodes .now)) (at-set-almost .set-almost .ensures .one)
+          (at-kit-count .kit-count .ensures),
       then1 .if1 .taken,
     )) (at-set-almost .set-almost .ensures)
 
@@ -121,7 +121,7 @@ all-almost-spec =
     (tie.spec
     quantities-of-requires
     least-requires
-    node-count-requires
+    kit-count-requires
     set-almost-requires
     same-length
     same-length-2
