@@ -58,7 +58,7 @@ ok-says {parts} {N} {i} e h s = says-as s
     (λ g. record { above = omega (arith, e); under = subst (λ (k : ℕ). Under parts N i k) e g })
     (λ g. subst (λ (k : ℕ). Under parts N i k) (sym e) (g .under))
 
--- six zeros, by the test of a free node
+-- all its words are 0, by the test of a free node
 pub zero-says : (N : List ℕ) (i : ℕ) {r : Bool} → 0 < i → r ≡ isFree N i → Says (Zero N i) r
 zero-says N i {r} g e = says-at r (λ t. free-zeros N i (sym e ∙ t)) (λ f z. never (sym (zeros-free N i g z) ∙ sym e ∙ f))
 

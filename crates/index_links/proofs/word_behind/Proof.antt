@@ -1,4 +1,4 @@
--- A node's words start at six times its number, and a number below the limit of a word times six is far below a machine's.
+-- A node's words start at so many times its number as it has words, and a number below the limit of a word so many times is far below a machine's.
 use native.Mathlib.Omega.{arith}
 use Rattle.index_links.proofs.Seeking.{word-first, word-after}
 use Rattle.index_links.proofs.word_behind.Statement.{statement}
