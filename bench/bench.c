@@ -68,22 +68,31 @@ void race(Job *job, int n)
     }
 }
 
+void row(const char *what, const double *ours, const double *plain, int n)
+{
+    printf("%s|", what);
+    for (int i = 0; i < n; i++) printf(" %.3f", ours[i]);
+    printf("|");
+    for (int i = 0; i < n; i++) printf(" %.3f", plain[i]);
+    printf("\n");
+}
+
 // As nodes and parts grow.
 void section_growth(void)
 {
     static const int cap[] = {64, 256, 1024, 2048, 4096}, parts[] = {8, 32, 64, 128, 255};
     enum { STEPS = 5 };
     checks_head();
-    for (int i = 0; i < STEPS; i++) { zipf(&t, "W5, nodes grow", cap[i], MOST_PARTS, 1, 4, 200); checks(); }
+    for (int i = 0; i < STEPS; i++) { zipf(&t, "W5, nodes grow", cap[i], SHOP_PARTS, 1, 4, 200); checks(); }
     for (int i = 0; i < STEPS; i++) { bushy(&t, "long chains, nodes grow", cap[i]); checks(); }
     for (int i = 0; i < STEPS; i++) { zipf(&t, "W5, parts grow", 64, parts[i], 1, 4, 200); checks(); }
-    for (int i = 0; i < STEPS; i++) { zipf(&t, "W5, nodes grow", cap[i], MOST_PARTS, 1, 4, 200); asks(); }
-    for (int i = 1; i < STEPS; i++) { zipf(&t, "W5, nodes grow", cap[i] * 3 / 4, MOST_PARTS, 1, 4, 200); with_room(&t, cap[i]); calls(); }
+    for (int i = 0; i < STEPS; i++) { zipf(&t, "W5, nodes grow", cap[i], SHOP_PARTS, 1, 4, 200); asks(); }
+    for (int i = 1; i < STEPS; i++) { zipf(&t, "W5, nodes grow", cap[i] * 3 / 4, SHOP_PARTS, 1, 4, 200); with_room(&t, cap[i]); calls(); }
 }
 
 static const struct { const char *name; void (*run)(void); } section[] = {
     {"page", section_page}, {"asks", section_asks}, {"calls", section_calls}, {"checks", section_checks},
-    {"counts", section_counts}, {"growth", section_growth}, {"sheet", section_sheet}, {"lines", section_lines}};
+    {"counts", section_counts}, {"growth", section_growth}, {"sheet", section_sheet}, {"lines", section_lines}, {"parts", section_parts}};
 enum { SECTIONS = sizeof section / sizeof *section };
 
 int main(int argc, char **argv)

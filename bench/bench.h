@@ -14,10 +14,12 @@ double least(double *times, int n); // sorts them
 double now(void);          // nanoseconds
 extern double clock_cost;  // what reading it takes
 _Noreturn void differs(const char *what);
+void row(const char *what, const double *ours, const double *plain, int n); // prints what, then the nanoseconds of ours and of C, for bench/run
 
 // asks.c: both tiers of ours, then plain_ways
 enum { PUBLIC, INNER, OURS };
 void ask_times(int ask, double *ns);   // of all OURS + PLAIN_WAYS, on the present table
+void ask_some(int ask, const int *ways, int n, double *ns); // of these
 // index.c
 enum { CALL_FOUND, CALL_MISSED, CALL_INSERT, CALL_DELETE, CALLS };
 enum { TIER_PUBLIC, TIER_INNER, TIER_C_TABLE, TIER_HASH, TIERS };
@@ -48,6 +50,7 @@ void section_growth(void);
 void section_sheet(void);
 void section_lines(void);
 void section_page(void);
+void section_parts(void);
 void asks(void); // one table of a section
 void calls(void);
 void checks_head(void);

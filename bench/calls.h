@@ -16,7 +16,7 @@
 #define BYTES_MUT uint8_t *, size_t
 
 // numbers of answers
-enum { DONE = 0, HELD = 9, TAG_BORNE = 10, NOT_HELD = 11, NO_ROOM = 12 };
+enum { DONE = 0, WRONG_LENGTH = 1, HELD = 9, TAG_BORNE = 10, NOT_HELD = 11, NO_ROOM = 12 };
 
 // public: every call checks what it is lent
 uint8_t cat_empty(REG_MUT, NODES_MUT, size_t *);
@@ -30,6 +30,7 @@ uint8_t cat_any_within(REG, NODES, LIST, size_t *);
 uint8_t cat_any_containing(REG, NODES, LIST, size_t *);
 uint8_t cat_all_within(REG, NODES, LIST, OUT, size_t *);
 uint8_t cat_all_containing(REG, NODES, LIST, OUT, size_t *);
+uint8_t cat_all_almost(REG, NODES, LIST, uint16_t d, OUT, OUT, size_t *);
 uint8_t cat_write_sheet(REG, NODES, BYTES_MUT, size_t *);
 uint8_t cat_read_sheet(REG_MUT, NODES_MUT, BYTES, size_t *);
 // the checks
@@ -45,6 +46,7 @@ uint16_t in_any_within(NODES, LIST);
 uint16_t in_any_containing(NODES, LIST);
 uint8_t in_all_within(NODES, LIST, OUT, size_t *);
 uint8_t in_all_containing(NODES, LIST, OUT, size_t *);
+uint8_t in_all_almost(NODES, LIST, uint16_t d, OUT, OUT, size_t *);
 uint8_t in_write_sheet(REG, NODES, BYTES_MUT, size_t *);
 size_t in_judge(BYTES);
 size_t desk_line(BYTES line, REG_MUT, NODES_MUT, OUT, BYTES_MUT sheet, BYTES_MUT reply);

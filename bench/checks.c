@@ -38,9 +38,9 @@ void section_checks(void)
 {
     checks_head();
     family(&t, "W1 (6,4) at 100%", 6, 4, 1); checks();
-    zipf(&t, "W4 even", MOST_NODES, MOST_PARTS, 0, 1, 60); checks();
-    zipf(&t, "W4 Zipf 1", MOST_NODES, MOST_PARTS, 1, 1, 60); checks();
-    zipf(&t, "W5", MOST_NODES, MOST_PARTS, 1, 4, 200); checks();
+    zipf(&t, "W4 even", MOST_NODES, SHOP_PARTS, 0, 1, 60); checks();
+    zipf(&t, "W4 Zipf 1", MOST_NODES, SHOP_PARTS, 1, 1, 60); checks();
+    zipf(&t, "W5", MOST_NODES, SHOP_PARTS, 1, 4, 200); checks();
     worst(&t, "W7"); checks();
     bushy(&t, "long chains of siblings", MOST_NODES); checks();
     bushy(&t, "  and long numbers alike", MOST_NODES); long_numbers(&t); checks();

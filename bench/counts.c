@@ -85,6 +85,6 @@ static void counted(void)
 void section_counts(void)
 {
     family(&t, "W1 (6,4) at 100%", 6, 4, 1); counted();
-    zipf(&t, "W5", MOST_NODES, MOST_PARTS, 1, 4, 200); counted();
+    zipf(&t, "W5", MOST_NODES, SHOP_PARTS, 1, 4, 200); counted();
     bushy(&t, "long chains of siblings", MOST_NODES); counted();
 }

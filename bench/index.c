@@ -121,7 +121,7 @@ void calls(void)
 void section_calls(void)
 {
     family(&t, "W1 (6,4) at 25%", 6, 4, 0.25); calls();
-    zipf(&t, "W4 Zipf 1", 3072, MOST_PARTS, 1, 1, 60); with_room(&t, MOST_NODES); calls();
-    zipf(&t, "W5", 3072, MOST_PARTS, 1, 4, 200); with_room(&t, MOST_NODES); calls();
+    zipf(&t, "W4 Zipf 1", 3072, SHOP_PARTS, 1, 1, 60); with_room(&t, MOST_NODES); calls();
+    zipf(&t, "W5", 3072, SHOP_PARTS, 1, 4, 200); with_room(&t, MOST_NODES); calls();
     bushy(&t, "long chains of siblings", 3072); with_room(&t, MOST_NODES); calls();
 }

@@ -106,5 +106,5 @@ static void lines(void)
 void section_lines(void)
 {
     lines_open(32); lines();
-    lines_open(MOST_PARTS); lines();
+    lines_open(SHOP_PARTS); lines();
 }

@@ -1,22 +1,11 @@
 // The rows of docs/PERFORMANCE.md; bench/run makes its tables of them.
 #include "bench.h"
-#include <stdio.h>
 
 enum { STEPS = 5 };
 static const int nodes_of[STEPS] = {64, 256, 1024, 2048, 4096}, parts_of[STEPS] = {8, 32, 64, 128, 255};
 typedef struct { double ours[STEPS], plain[STEPS]; } Grown;
 
-// What, then the nanoseconds of ours and of C.
-static void row(const char *what, const double *ours, const double *plain, int n)
-{
-    printf("%s|", what);
-    for (int i = 0; i < n; i++) printf(" %.3f", ours[i]);
-    printf("|");
-    for (int i = 0; i < n; i++) printf(" %.3f", plain[i]);
-    printf("\n");
-}
-
-static void shop(int cap) { zipf(&t, "a shop", cap, MOST_PARTS, 1, 4, 200); }
+static void shop(int cap) { zipf(&t, "a shop", cap, SHOP_PARTS, 1, 4, 200); }
 
 static void line_row(const char *what, const LineTimes *l, int n)
 {
@@ -27,7 +16,7 @@ static void line_row(const char *what, const LineTimes *l, int n)
 
 static void line_rows(void)
 {
-    lines_open(MOST_PARTS);
+    lines_open(SHOP_PARTS);
     const List *mid = &t.kit[t.kits / 2];
     LineTimes ends[] = {list_line('F', 0, mid), list_line('K', 65535, mid), list_line('D', 0, &t.fresh[1])};
     LineTimes bins[] = {list_line('B', 0, short_bin()), list_line('b', 0, short_bin())};
@@ -40,7 +29,7 @@ static void line_rows(void)
 static void check_rows(void)
 {
     double ns[CHECK_JOBS];
-    zipf(&t, "the desk", DESK_NODES, MOST_PARTS, 1, 4, BIN_PARTS);
+    zipf(&t, "the desk", DESK_NODES, SHOP_PARTS, 1, 4, BIN_PARTS);
     check_times(ns);
     row("check of the register: 255 parts", &ns[CHECK_REGISTER], &ns[CHECK_HASH], 1);
     long_numbers(&t);
@@ -188,7 +177,7 @@ static void inverted_rows(void)
 {
     shop(MOST_NODES);
     ask_row("all containing, inner, beside an inverted index: a shop, lists of 1 to 3 parts", ALL_CONTAINING, INVERTED);
-    zipf(&t, "W4 even", MOST_NODES, MOST_PARTS, 0, 1, 60);
+    zipf(&t, "W4 even", MOST_NODES, SHOP_PARTS, 0, 1, 60);
     ask_row("all containing, inner, beside an inverted index: parts drawn alike, one of each", ALL_CONTAINING, INVERTED);
 }
 

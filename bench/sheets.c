@@ -7,13 +7,13 @@ static uint8_t sheet[1 << 20], sheet2[1 << 20], reg2[MOST_PARTS * SLOT];
 static uint16_t saved[MOST_NODES * WORDS], nodes2[MOST_NODES * WORDS];
 static size_t bytes;
 
-#define READ_INTO reg2, sizeof reg2, nodes2, (size_t)t.cap * WORDS, sheet, bytes
+#define READ_INTO reg2, (size_t)t.slots * SLOT, nodes2, (size_t)t.cap * WORDS, sheet, bytes
 static void do_cat_write(void *a) { size_t v; (void)a; sink = cat_write_sheet(REG_OF(t), NODES_OF(t), sheet2, sizeof sheet2, &v); }
 static void do_in_write(void *a) { size_t v; (void)a; sink = in_write_sheet(REG_OF(t), NODES_OF(t), sheet2, sizeof sheet2, &v); }
 static void do_plain_write(void *a) { (void)a; sink = (unsigned)plain_write(&t, sheet2); }
 static void do_cat_read(void *a) { size_t v; (void)a; sink = cat_read_sheet(READ_INTO, &v); }
 static void do_judge(void *a) { (void)a; sink = (unsigned)in_judge(sheet, bytes); }
-static void do_plain_read(void *a) { (void)a; sink = (unsigned)plain_read(sheet, bytes, reg2, MOST_PARTS, (Node *)nodes2, t.cap); }
+static void do_plain_read(void *a) { (void)a; sink = (unsigned)plain_read(sheet, bytes, reg2, (size_t)t.slots, (Node *)nodes2, t.cap); }
 
 // Sheets and tables agree in every byte.
 static void same_sheets(void)
@@ -25,7 +25,7 @@ static void same_sheets(void)
     if (in_judge(sheet, bytes) != (size_t)t.used) differs("judge");
     if (cat_read_sheet(READ_INTO, &v) || (int)v != t.kits || memcmp(reg2, t.reg, sizeof reg2)) differs("read");
     memcpy(saved, nodes2, sizeof saved);
-    if (plain_read(sheet, bytes, reg2, MOST_PARTS, (Node *)nodes2, t.cap) != t.kits) differs("read in C");
+    if (plain_read(sheet, bytes, reg2, (size_t)t.slots, (Node *)nodes2, t.cap) != t.kits) differs("read in C");
     if (memcmp(saved, nodes2, sizeof saved) || memcmp(reg2, t.reg, sizeof reg2)) differs("the tables read in C");
 }
 
@@ -52,7 +52,7 @@ void section_sheet(void)
 {
     static const int cap[] = {64, 256, 1024, 2048, 4096};
     printf("\nsheet, microseconds    parts  used  kits  bytes    public     inner   C write      read     judge    C read inner/C read/C\n");
-    for (int i = 0; i < 5; i++) { zipf(&t, "W5", cap[i], MOST_PARTS, 1, 4, 200); sheets(); }
+    for (int i = 0; i < 5; i++) { zipf(&t, "W5", cap[i], SHOP_PARTS, 1, 4, 200); sheets(); }
     family(&t, "W1 (6,4) at 100%", 6, 4, 1); sheets();
     bushy(&t, "long chains", MOST_NODES); sheets();
 }

@@ -3,16 +3,18 @@
 #define TABLES_H
 #include "calls.h"
 
-enum { MOST_KITS = 4096, MOST_NODES = 4096, MOST_PARTS = 255, PLACES = 256, MOST_UNITS = 64, QUERIES = 64, SLOT = 32, WORDS = 7 };
+enum { MOST_KITS = 4096, MOST_NODES = 4096, MOST_PARTS = 4000, PLACES = MOST_PARTS + 1, MOST_UNITS = 64, QUERIES = 64, SLOT = 32, WORDS = 7 };
+// All tables but those of the section parts have at most so many parts, and the ways in C that keep something for each place have room for no more.
+enum { SHOP_PARTS = 255, SHOP_PLACES = SHOP_PARTS + 1, MOST_LINES = 256 };
 
 typedef struct { uint16_t parent, child, next, label, depth, tag, tally; } Node; // tally: the kits at or below it
 
-typedef struct { uint16_t w[2 * PLACES]; int n; } List; // n words: place, quantity, ..
+typedef struct { uint16_t w[2 * MOST_LINES]; int n; } List; // n words: place, quantity, ..
 
 typedef struct {
     const char *name;
     uint8_t reg[MOST_PARTS * SLOT];
-    int parts;
+    int parts, slots; // slots: as many as are lent, 255 or all that there are parts
     uint16_t nodes[MOST_NODES * WORDS];
     int cap, used, kits;
     List kit[MOST_KITS]; // in listing order
@@ -24,7 +26,7 @@ typedef struct {
 
 // a table, a register and a list as they are lent
 #define NODES_OF(t) (t).nodes, (size_t)(t).cap * WORDS
-#define REG_OF(t) (t).reg, sizeof (t).reg
+#define REG_OF(t) (t).reg, (size_t)(t).slots * SLOT
 #define LENT(l) (l).w, (size_t)(l).n
 
 uint64_t draw(void);              // 64 random bits

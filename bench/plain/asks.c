@@ -7,7 +7,8 @@ void base_build(Base *b, const Table *t)
     memset(b, 0, sizeof *b);
     b->t = t;
     b->words = (t->kits + 63) / 64;
-    int count[PLACES + 1] = {0};
+    if (t->parts > SHOP_PARTS) return; // only C_BEST and plain_almost have room for more
+    int count[SHOP_PLACES + 1] = {0};
     for (int k = 0; k < t->kits; k++)
         for (int i = 0; i < t->kit[k].n; i += 2) {
             int p = t->kit[k].w[i], q = t->kit[k].w[i + 1];
@@ -16,8 +17,8 @@ void base_build(Base *b, const Table *t)
             for (int m = 1; m <= q; m++) b->has[p][m][k / 64] |= 1ull << (k % 64);
             count[p]++;
         }
-    for (int p = 0; p < PLACES; p++) b->from[p + 1] = b->from[p] + count[p];
-    int at[PLACES];
+    for (int p = 0; p < SHOP_PLACES; p++) b->from[p + 1] = b->from[p] + count[p];
+    int at[SHOP_PLACES];
     memcpy(at, b->from, sizeof at);
     for (int k = 0; k < t->kits; k++)
         for (int i = 0; i < t->kit[k].n; i += 2) {
@@ -29,7 +30,7 @@ void base_build(Base *b, const Table *t)
 
 static void quantities(const List *l, uint8_t *vec)
 {
-    memset(vec, 0, PLACES);
+    memset(vec, 0, SHOP_PLACES);
     for (int i = 0; i < l->n; i += 2) vec[l->w[i]] = (uint8_t)l->w[i + 1];
 }
 
@@ -40,7 +41,7 @@ static void quantities(const List *l, uint8_t *vec)
 // ---- scan of rows: each kit's lines against the bin, or merged with the list
 INLINE unsigned rows_within(Base *b, const List *l, uint16_t *out, bool any)
 {
-    uint8_t bin[PLACES];
+    uint8_t bin[SHOP_PLACES];
     unsigned n = 0;
     quantities(l, bin);
     for (int k = 0; k < b->t->kits; k++) {
@@ -72,13 +73,13 @@ INLINE unsigned rows_containing(Base *b, const List *l, uint16_t *out, bool any)
 INLINE bool no_more(const uint8_t *a, const uint8_t *b)
 {
     uint8_t more = 0;
-    for (int i = 0; i < PLACES; i++) more |= a[i] > b[i];
+    for (int i = 0; i < SHOP_PLACES; i++) more |= a[i] > b[i];
     return !more;
 }
 
 INLINE unsigned vectors(Base *b, const List *l, uint16_t *out, bool any, bool within)
 {
-    uint8_t vec[PLACES];
+    uint8_t vec[SHOP_PLACES];
     unsigned n = 0;
     quantities(l, vec);
     for (int k = 0; k < b->t->kits; k++)
@@ -152,12 +153,12 @@ INLINE unsigned bits_containing(Base *b, const List *l, uint16_t *out, bool any)
 
 INLINE unsigned bits_within(Base *b, const List *l, uint16_t *out, bool any)
 {
-    uint8_t bin[PLACES];
-    const uint64_t *over[PLACES];
+    uint8_t bin[SHOP_PLACES];
+    const uint64_t *over[SHOP_PLACES];
     int overs = 0;
     unsigned n = 0;
     quantities(l, bin);
-    for (int p = 1; p < PLACES; p++) if (bin[p] < b->most[p]) over[overs++] = b->has[p][bin[p] + 1];
+    for (int p = 1; p < SHOP_PLACES; p++) if (bin[p] < b->most[p]) over[overs++] = b->has[p][bin[p] + 1];
     for (int w = 0; w < b->words; w++) {
         uint64_t bits = kits_of(b, w);
         for (int i = 0; i < overs && bits; i++) bits &= ~over[i][w];
@@ -170,12 +171,12 @@ INLINE unsigned bits_within(Base *b, const List *l, uint16_t *out, bool any)
 // ---- a walk down the same node table: calls itself on child and sibling, and counts first where all are listed
 static void amounts(const List *l, uint16_t *by_place)
 {
-    memset(by_place, 0, PLACES * sizeof *by_place);
+    memset(by_place, 0, SHOP_PLACES * sizeof *by_place);
     for (int i = 0; i < l->n; i += 2) by_place[l->w[i]] = l->w[i + 1];
 }
 
-static unsigned last_place(const uint16_t *a) { unsigned p = 255; while (p && !a[p]) p--; return p; }
-static unsigned next_wanted(const uint16_t *a, unsigned p) { while (p < 256 && !a[p]) p++; return p; }
+static unsigned last_place(const uint16_t *a) { unsigned p = SHOP_PARTS; while (p && !a[p]) p--; return p; }
+static unsigned next_wanted(const uint16_t *a, unsigned p) { while (p < SHOP_PLACES && !a[p]) p++; return p; }
 
 static unsigned come(const uint16_t *bin, unsigned label, unsigned last, unsigned had)
 {
@@ -209,7 +210,7 @@ static unsigned first_containing(const Node *t, const uint16_t *list, unsigned a
     if (!at || want < t[at].label) return 0;
     unsigned label = t[at].label, w = want, g = got;
     if (label == want && ++g == list[want]) { w = next_wanted(list, want + 1); g = 0; }
-    if (w == 256 && t[at].tag) return t[at].tag;
+    if (w == SHOP_PLACES && t[at].tag) return t[at].tag;
     unsigned below = first_containing(t, list, t[at].child, w, g);
     return below ? below : first_containing(t, list, label < want ? t[at].next : 0, want, got);
 }
@@ -219,7 +220,7 @@ static unsigned list_containing(const Node *t, const uint16_t *list, uint16_t *o
     if (!at || want < t[at].label) return n;
     unsigned label = t[at].label, w = want, g = got;
     if (label == want && ++g == list[want]) { w = next_wanted(list, want + 1); g = 0; }
-    if (w == 256 && t[at].tag) { if (n < room) out[n] = t[at].tag; n++; }
+    if (w == SHOP_PLACES && t[at].tag) { if (n < room) out[n] = t[at].tag; n++; }
     n = list_containing(t, list, out, room, n, t[at].child, w, g);
     return list_containing(t, list, out, room, n, label < want ? t[at].next : 0, want, got);
 }
@@ -227,7 +228,7 @@ static unsigned list_containing(const Node *t, const uint16_t *list, uint16_t *o
 static unsigned walk_any_within(Base *b, const List *l, uint16_t *out)
 {
     const Node *t = node_in(b->t);
-    uint16_t a[PLACES];
+    uint16_t a[SHOP_PLACES];
     (void)out;
     if (t->tag) return t->tag;
     amounts(l, a);
@@ -237,11 +238,11 @@ static unsigned walk_any_within(Base *b, const List *l, uint16_t *out)
 static unsigned walk_any_containing(Base *b, const List *l, uint16_t *out)
 {
     const Node *t = node_in(b->t);
-    uint16_t a[PLACES];
+    uint16_t a[SHOP_PLACES];
     (void)out;
     amounts(l, a);
     unsigned want = next_wanted(a, 0);
-    if (want == 256 && t->tag) return t->tag;
+    if (want == SHOP_PLACES && t->tag) return t->tag;
     return first_containing(t, a, t->child, want, 0);
 }
 
@@ -255,13 +256,13 @@ INLINE unsigned set_within(const Node *t, const uint16_t *a, uint16_t *out, unsi
 INLINE unsigned set_containing(const Node *t, const uint16_t *a, uint16_t *out, unsigned room)
 {
     unsigned n = 0, want = next_wanted(a, 0);
-    if (want == 256 && t->tag) { if (room) out[0] = t->tag; n = 1; }
+    if (want == SHOP_PLACES && t->tag) { if (room) out[0] = t->tag; n = 1; }
     return list_containing(t, a, out, room, n, t->child, want, 0);
 }
 
 static unsigned walk_all_within(Base *b, const List *l, uint16_t *out)
 {
-    uint16_t a[PLACES];
+    uint16_t a[SHOP_PLACES];
     amounts(l, a);
     if (MOST_KITS < set_within(node_in(b->t), a, out, 0)) return 0;
     return set_within(node_in(b->t), a, out, MOST_KITS);
@@ -269,7 +270,7 @@ static unsigned walk_all_within(Base *b, const List *l, uint16_t *out)
 
 static unsigned walk_all_containing(Base *b, const List *l, uint16_t *out)
 {
-    uint16_t a[PLACES];
+    uint16_t a[SHOP_PLACES];
     amounts(l, a);
     if (MOST_KITS < set_containing(node_in(b->t), a, out, 0)) return 0;
     return set_containing(node_in(b->t), a, out, MOST_KITS);
@@ -279,6 +280,13 @@ static unsigned walk_all_containing(Base *b, const List *l, uint16_t *out)
 // next looked up, and all that is below a full match taken without a test
 typedef struct { const Node *t; uint16_t amount[PLACES], after[PLACES]; unsigned top, first; uint16_t *out; unsigned n; bool any; } Best;
 
+// Nothing of any place that the table's parts have.
+INLINE void clear(uint16_t *amount, const Table *t)
+{
+    if (t->parts < SHOP_PLACES) memset(amount, 0, SHOP_PLACES * sizeof *amount);
+    else memset(amount, 0, PLACES * sizeof *amount);
+}
+
 INLINE void best_start(Best *w, Base *b, const List *l, uint16_t *out, bool any, bool containing)
 {
     w->t = node_in(b->t);
@@ -286,11 +294,11 @@ INLINE void best_start(Best *w, Base *b, const List *l, uint16_t *out, bool any,
     w->n = 0;
     w->any = any;
     w->top = l->n ? l->w[l->n - 2] : 0;
-    w->first = l->n ? l->w[0] : 256;
-    if (!containing) memset(w->amount, 0, sizeof w->amount);
+    w->first = l->n ? l->w[0] : PLACES;
+    if (!containing) clear(w->amount, b->t);
     for (int i = 0; i < l->n; i += 2) {
         w->amount[l->w[i]] = l->w[i + 1];
-        w->after[l->w[i]] = i + 2 < l->n ? l->w[i + 2] : 256;
+        w->after[l->w[i]] = i + 2 < l->n ? l->w[i + 2] : PLACES;
     }
 }
 
@@ -330,7 +338,7 @@ static bool best_containing(Best *w, unsigned at, unsigned want, unsigned got)
             if (t[at].child && best_containing(w, t[at].child, want, got)) return true;
         } else if (got + 1 < w->amount[want]) {
             return t[at].child && best_containing(w, t[at].child, want, got + 1);
-        } else if (w->after[want] < 256) {
+        } else if (w->after[want] < PLACES) {
             return t[at].child && best_containing(w, t[at].child, w->after[want], 0);
         } else {
             if (t[at].tag && best_take(w, t[at].tag)) return true;
@@ -379,6 +387,31 @@ const Way plain_ways[PLAIN_WAYS] = {
     {"bitmaps", {bits_any_within, bits_any_containing, bits_all_within, bits_all_containing}},
 };
 
+// ---- the kits that lack at most d units of the bin: siblings in a loop, a branch left as soon as it lacks more
+typedef struct { const Node *t; uint16_t amount[PLACES]; unsigned d, n; uint16_t *tags, *shorts; } Almost;
+
+static void almost_from(Almost *w, unsigned at, unsigned last, unsigned left, unsigned lacks)
+{
+    const Node *t = w->t;
+    for (; at; at = t[at].next) {
+        unsigned label = t[at].label, has = label == last ? left : w->amount[label], lacking = lacks + !has;
+        if (w->d < lacking) continue;
+        if (t[at].tag) { w->tags[w->n] = t[at].tag; w->shorts[w->n++] = (uint16_t)lacking; }
+        if (t[at].child) almost_from(w, t[at].child, label, has ? has - 1 : 0, lacking);
+    }
+}
+
+unsigned plain_almost(const Table *table, const List *l, unsigned d, uint16_t *tags, uint16_t *shorts)
+{
+    Almost w;
+    w.t = node_in(table), w.d = d, w.n = 0, w.tags = tags, w.shorts = shorts;
+    clear(w.amount, table);
+    for (int i = 0; i < l->n; i += 2) w.amount[l->w[i]] = l->w[i + 1];
+    if (w.t->tag) { tags[0] = w.t->tag; shorts[0] = 0; w.n = 1; }
+    almost_from(&w, w.t->child, 0, 0, 0);
+    return w.n;
+}
+
 // ---- nodes entered by the walk, and the fewest: those with an answer at or below them, up to the first where one is asked
 static long seen_nodes, least_nodes;
 
@@ -405,7 +438,7 @@ static bool go_containing(const Node *t, const uint16_t *list, unsigned at, unsi
         if (want < t[at].label) return found;
         unsigned w = want, g = got;
         if (t[at].label == want && ++g == list[want]) { w = next_wanted(list, want + 1); g = 0; }
-        bool here = w == 256 && t[at].tag;
+        bool here = w == SHOP_PLACES && t[at].tag;
         if (!(any && here)) here |= go_containing(t, list, t[at].child, w, g, any);
         if (here) { least_nodes++; found = true; if (any) return true; }
     }
@@ -415,7 +448,7 @@ static bool go_containing(const Node *t, const uint16_t *list, unsigned at, unsi
 Walked walked(const Table *table, int ask, const List *l)
 {
     const Node *t = node_in(table);
-    uint16_t a[PLACES];
+    uint16_t a[SHOP_PLACES];
     bool any = ask == ANY_WITHIN || ask == ANY_CONTAINING;
     amounts(l, a);
     seen_nodes = least_nodes = 1; // the root
@@ -423,7 +456,7 @@ Walked walked(const Table *table, int ask, const List *l)
         if (!(any && t->tag)) go_within(t, a, last_place(a), t->child, 0, 0, any);
     } else {
         unsigned want = next_wanted(a, 0);
-        if (!(any && want == 256 && t->tag)) go_containing(t, a, t->child, want, 0, any);
+        if (!(any && want == SHOP_PLACES && t->tag)) go_containing(t, a, t->child, want, 0, any);
     }
     return (Walked){seen_nodes, least_nodes};
 }

@@ -40,16 +40,18 @@ bool pairs_register(const uint8_t *reg, size_t n)
 
 bool plain_register(const uint8_t *reg, size_t n)
 {
-    uint8_t head[256] = {0}, before[256];
+    uint16_t head[4096], before[PLACES];
     int m = slots_used(reg, (int)n / SLOT);
+    unsigned mask = m < SHOP_PLACES ? 255 : 4095;
+    memset(head, 0, (mask + 1) * sizeof *head);
     for (int k = 0; k < m; k++) {
         const uint8_t *x = reg + k * SLOT;
         unsigned h = 0;
         for (int i = 1; i <= x[0]; i++) h = h * 31 + x[i];
-        h = (h ^ h >> 8) & 255;
+        h = (h ^ h >> 8) & mask;
         for (int e = head[h]; e; e = before[e]) if (!memcmp(reg + (e - 1) * SLOT, x, SLOT)) return false;
         before[k + 1] = head[h];
-        head[h] = (uint8_t)(k + 1);
+        head[h] = (uint16_t)(k + 1);
     }
     return m >= 0;
 }

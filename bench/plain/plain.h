@@ -7,12 +7,12 @@
 typedef struct {
     const Table *t;
     int words;                                   // of a bitmap over the kits
-    uint8_t vec[MOST_KITS][PLACES];              // a kit's quantity at each place
-    int from[PLACES + 1];                        // postings of a place
+    uint8_t vec[MOST_KITS][SHOP_PLACES];         // a kit's quantity at each place
+    int from[SHOP_PLACES + 1];                   // postings of a place
     uint16_t post_kit[MOST_KITS * 16];
     uint8_t post_quantity[MOST_KITS * 16];
-    int most[PLACES];                            // the greatest quantity of a place in any kit
-    uint64_t has[PLACES][17][MOST_KITS / 64];    // kits with so many of a place, or more
+    int most[SHOP_PLACES];                       // the greatest quantity of a place in any kit
+    uint64_t has[SHOP_PLACES][17][MOST_KITS / 64]; // kits with so many of a place, or more
     uint32_t stamp[MOST_KITS], epoch;
     uint8_t seen[MOST_KITS];
 } Base;
@@ -25,6 +25,9 @@ enum { ANY_WITHIN, ANY_CONTAINING, ALL_WITHIN, ALL_CONTAINING, ASKS };
 typedef struct { const char *name; Ask *ask[ASKS]; } Way;
 enum { C_WALK, C_BEST, ROWS, VECTORS, INVERTED, BITMAPS, PLAIN_WAYS };
 extern const Way plain_ways[PLAIN_WAYS];
+
+// Kits that lack at most d units of the bin: how many, their tags and what each lacks.
+unsigned plain_almost(const Table *t, const List *bin, unsigned d, uint16_t *tags, uint16_t *shorts);
 
 // nodes whose label is read, and the fewest that any walk down the same tree must enter
 typedef struct { long entered, least; } Walked;

@@ -5,7 +5,7 @@ many by chance: by turns one catalogue that is filled and emptied, and two catal
 must agree exactly when their contents do.
 """
 
-from made import index_sequences, sheet_sequences
+from made import index_sequences, sheet_sequences, version_sequences
 from made.chance import Chance
 from made.reached import sequences_reached
 from run.door import played
@@ -61,6 +61,8 @@ def compare(command, options):
     comparison.play("fixed", index_sequences.fixed)
     comparison.play("4,096 nodes", index_sequences.full_table)
     comparison.play("a torn label", sheet_sequences.torn_label)
+    comparison.play("both versions", version_sequences.both_versions)
+    comparison.play("4,000 parts", version_sequences.four_thousand_parts)
     for turn in range(options.sequences):
         by_chance(comparison, *divmod(turn, 2))
     return verdict("sequences", comparison.reached, "%d sequences, %d calls" % (

@@ -11,7 +11,7 @@ from second.kits import MOST_QUANTITY, MOST_UNITS, lines_of, lines_of_words, uni
 from second.lent import Request
 from second.nodes import MOST_NODES
 from second.refusals import NO_ROOM
-from second.register import MOST_SLOTS
+from second.sheet import BYTE_PLACES
 
 from .index_requests import BEFORE, LONGEST_LIST, SECOND_BEFORE, pairs_of_tables, some_list
 from .short_cases import ALMOST_CASES
@@ -167,7 +167,7 @@ def every_small_bin():
 
 def large():
     """Tables of 4,096 nodes, each of them a kit or on long paths, with room for all or less."""
-    full = parts_register(MOST_SLOTS, MOST_SLOTS)
+    full = parts_register(BYTE_PLACES, BYTE_PLACES)
     every = large_table("every node a kit")
     for first, second in ((MOST_NODES, MOST_NODES), (MOST_NODES - 1, MOST_NODES),
                           (MOST_NODES, MOST_NODES - 1), (MOST_NODES - 1, MOST_NODES - 1),
@@ -176,8 +176,8 @@ def large():
         for d, listed in ((2, []), (64, []), (64, [16, 1, 100, 1])):
             yield Request("a", d, R=full, N=every, L=listed, P=[9] * first, Q=[8] * second,
                           note="4096 kits into %d and %d places" % (first, second))
-    most = [word for place in range(1, MOST_SLOTS + 1) for word in (place, MOST_QUANTITY)]
-    ones = [word for place in range(1, MOST_SLOTS + 1) for word in (place, 1)]
+    most = [word for place in range(1, BYTE_PLACES + 1) for word in (place, MOST_QUANTITY)]
+    ones = [word for place in range(1, BYTE_PLACES + 1) for word in (place, 1)]
     for kind in LARGE_KINDS:
         for listed in ([], ones, most, [1, 15, 2, 3, 40, 2, 255, 15]):
             for d in (0, 1, 2, 20, 40, 63, 64, 65):

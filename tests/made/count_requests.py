@@ -5,7 +5,7 @@ from itertools import product
 from second import index, nodes
 from second.kits import MOST_UNITS, beginnings, lines_of, lines_of_words, units, words_of
 from second.lent import Request
-from second.register import MOST_SLOTS
+from second.sheet import BYTE_PLACES
 
 from .index_requests import LONGEST_LIST, TOO_LONG_LIST, pairs_of_tables, some_list
 from .short_cases import COUNT_CASES
@@ -118,13 +118,13 @@ def sweeps():
 
 def large():
     """Tables of 4,096 nodes: all kits, all with one beginning, one kit, and none."""
-    full = parts_register(MOST_SLOTS, MOST_SLOTS)
+    full = parts_register(BYTE_PLACES, BYTE_PLACES)
     for kind in LARGE_KINDS:
         words = large_table(kind)
         rows = sorted(nodes.held_kits(words))
         asked = {row[:length] for row in (rows[0], rows[1], rows[len(rows) // 2], rows[-1])
                  for length in (0, 1, 2, len(row) // 2, len(row))}
-        asked |= {row + (MOST_SLOTS,) for row in asked if row.count(MOST_SLOTS) < 15}
+        asked |= {row + (BYTE_PLACES,) for row in asked if row.count(BYTE_PLACES) < 15}
         for row in sorted(asked):
             yield Request("#", R=full, N=words, L=words_of(lines_of(row)),
                           note="4096 nodes, %s, beginning with %d units" % (kind, len(row)))

@@ -7,7 +7,8 @@ from second import index, nodes
 from second.kits import MOST_QUANTITY, beginnings, lines_of, lines_of_words, units, words_of
 from second.lent import Request
 from second.nodes import MOST_NODES, NODE_WORDS
-from second.register import MOST_SLOTS, filled
+from second.register import filled
+from second.sheet import BYTE_PLACES
 
 from .broken_tables import (
     BROKEN_TABLES, LOST_NODES, RAW_PATHS, STEM, TWO_CHAINS, WRONG_COUNTS, WRONG_LINKS)
@@ -399,14 +400,14 @@ def swept_slots():
 def large():
     """Tables of 4,096 nodes and one more, chains of 255 siblings, long lists, long outputs."""
     yield from long_lists()
-    full = parts_register(MOST_SLOTS, MOST_SLOTS)
+    full = parts_register(BYTE_PLACES, BYTE_PLACES)
     for length in LARGE_LENGTHS:
         for letter in ALL_LETTERS:
             yield Request(letter, 7, R=parts_register(2), N=[0] * length, L=[1, 2],
                           **some_outputs(letter), O=bytes(60), note="%d words" % length)
-    everything = [word for place in range(1, MOST_SLOTS + 1) for word in (place, 15)]
-    ones = [word for place in range(1, MOST_SLOTS + 1) for word in (place, 1)]
-    lists = [[], [1, 1], [MOST_SLOTS, 1], [16, 1, 100, 1], [16, 1, 101, 1], ones, everything,
+    everything = [word for place in range(1, BYTE_PLACES + 1) for word in (place, 15)]
+    ones = [word for place in range(1, BYTE_PLACES + 1) for word in (place, 1)]
+    lists = [[], [1, 1], [BYTE_PLACES, 1], [16, 1, 100, 1], [16, 1, 101, 1], ones, everything,
              everything + [256, 1], everything + [255, 1], ones[:128], ones[:130],
              [word for place in range(1, 4001) for word in (place, 1)], LONGEST_LIST]
     siblings = table(256, *(((place,), 1000 - place) for place in (
@@ -440,7 +441,7 @@ def long_lists():
     Places strictly rise and there are at most 255 parts: of 4,000 lines, line 256 is at fault by 5
     at the latest, so that what is wrong with the last is never said. They are sent all the same.
     """
-    full, words = parts_register(MOST_SLOTS, MOST_SLOTS), table(3, ((1,), 4), ((2,), 9))
+    full, words = parts_register(BYTE_PLACES, BYTE_PLACES), table(3, ((1,), 4), ((2,), 9))
     for listed in chain(*map(lists_at_fault, LINE_COUNTS), *map(odd_lists, ODD_LENGTHS)):
         for letter in LIST_LETTERS:
             yield Request(letter, tag_or_most(letter, 40000), R=full, N=words, L=listed,
@@ -469,7 +470,7 @@ def faulty_lines(place):
 
     Instead of its place it has 0, the one before or one beyond the parts.
     """
-    wrong = sorted({0, place - 1, MOST_SLOTS + 1})
+    wrong = sorted({0, place - 1, BYTE_PLACES + 1})
     return [(place, 0), (place, MOST_QUANTITY + 1),
             *product(wrong, (1, MOST_QUANTITY + 1))]
 

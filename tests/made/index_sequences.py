@@ -8,6 +8,7 @@ from second.kits import MOST_QUANTITY, MOST_UNITS, beginnings, lines_of_words, u
 from second.nodes import MOST_NODES
 from second.refusals import ALREADY_HELD, DONE, NO_ROOM, NOT_HELD, TAG_TAKEN
 from second.register import MOST_SLOTS
+from second.sheet import BYTE_PLACES
 
 from .carried import empty_catalogue, expect
 from .index_requests import LONGEST_LIST, TOO_LONG_LIST
@@ -146,9 +147,9 @@ KINDS = [
     Kind("a small table", (1, 2, 3, 3, 4), (1, 2, 3, 4, 5, 6, 9), 260, some_row),
     Kind("shared beginnings", (2, 3, 4, 6), (16, 25, 40, 60), 260, some_row),
     Kind("rows of 64", (5, 6, 9), (65, 66, 140, 230), 140, long_row),
-    Kind("long chains", (40, MOST_SLOTS), (30, 60, 110), 140, wide_row),
+    Kind("long chains", (40, BYTE_PLACES, 300), (30, 60, 110), 140, wide_row),
 ]
-FULL_KIND = Kind("4,096 nodes", (MOST_SLOTS,), (MOST_NODES,), 40, long_row)
+FULL_KIND = Kind("4,096 nodes", (BYTE_PLACES,), (MOST_NODES,), 40, long_row)
 
 
 def row_taking(chance, rows, parts, count):
@@ -301,8 +302,8 @@ def by_chance(door, kind):
 def full_table(door):
     """A sequence on 4,096 nodes, all used at first: read from a sheet, which is one call."""
     held = nodes.held_kits(large_table("long paths"))
-    catalogue = empty_catalogue(door, MOST_SLOTS, MOST_NODES)
-    data = sheet.written(many_numbers(MOST_SLOTS), held)
+    catalogue = empty_catalogue(door, BYTE_PLACES, MOST_NODES)
+    data = sheet.written(many_numbers(BYTE_PLACES), held)
     expect(catalogue.call("r", I=data), DONE, len(held), "a sheet that takes 4,096 nodes")
     bring_on(catalogue, FULL_KIND)
 

@@ -13,10 +13,13 @@ from second.kits import (
     words_of)
 from second.lent import Request
 from second.nodes import NODE_WORDS
-from second.refusals import BAD_ORDER
+from second.refusals import BAD_ORDER, BEYOND_PARTS
 from second.register import MOST_SLOTS
+from second.sheet import BYTE_PLACES, version_for
 
-from .reached import BY_CHANCE, GOOD, ON_LINE, PAIR
+from .many_parts import AROUND_BYTE, AROUND_MOST, EDGE_PLACES
+from .many_ways import BEHIND
+from .reached import BEYOND, BY_CHANCE, GOOD, GOOD_PLACE, ON_LINE, PAIR
 from .register_requests import many_numbers
 from .sheet_requests import record, sheet_of
 from .tables import parts_register, table
@@ -41,6 +44,7 @@ def limits():
     yield from lengths_and_places()
     yield from lines_in_order()
     yield from largest()
+    yield from many_parts()
     yield from short_rows()
 
 
@@ -85,6 +89,22 @@ def largest():
     yield 254, full(255, 15), [254, 15]
     yield 255, [255, 15], full(254, 15)
     yield 255, full(255, 1), full(255, 1)[:-1]
+
+
+def many_parts():
+    """Places around 255 and 4,000 beside as many parts, each beside the next and the one behind."""
+    for parts in AROUND_BYTE + AROUND_MOST:
+        yield parts, [parts, 15], [parts, 1]
+        yield parts, [parts - 1, 1, parts, 1], [parts, 1]
+        yield parts, [1, 1, parts, 2], [1, 1, 2, 1]
+        yield parts, [parts, 1, parts + 1, 1], [parts, 1, parts - 1, 1]
+    for one, other in ((1, 257), (255, 256), (256, 257), (2, 512), (258, 513), (256, 4000)):
+        yield MOST_SLOTS, [one, 1], [other, 1]
+        yield MOST_SLOTS, [one, 1, other, 1], [other, 1, one, 1]
+    edges = [number for place in EDGE_PLACES for number in (place, 1)]
+    yield MOST_SLOTS, edges, edges[:-2]
+    yield MOST_SLOTS, full(MOST_SLOTS, 15), edges
+    yield MOST_SLOTS, full(MOST_SLOTS + 1, 15), edges
 
 
 def short_rows():
@@ -164,16 +184,24 @@ def checks(parts, listed):
 
 
 @lru_cache(maxsize=None)
-def fifteen_of_each(parts):
-    """A table that has fifteen of each part as a kit."""
-    return tuple(table(1 + parts * MOST_QUANTITY, *(
-        ((place,) * MOST_QUANTITY, place) for place in range(1, parts + 1))))
+def fifteen_of_each(places):
+    """A table that has fifteen of each of these parts as a kit."""
+    return tuple(table(1 + len(places) * MOST_QUANTITY, *(
+        ((place,) * MOST_QUANTITY, place) for place in places)))
+
+
+def shown_places(parts):
+    """All places, or the edges among them where a table has no room for fifteen of each."""
+    if parts <= BYTE_PLACES:
+        return tuple(range(1, parts + 1))
+    return tuple(place for place in (1, 2, 254, *EDGE_PLACES) if place <= parts)
 
 
 def bins(parts, listed):
     """What fifteen of each part lack beside the list: fifteen less its quantity."""
-    yield Request("a", MOST_QUANTITY, R=registered(parts), N=fifteen_of_each(parts), L=listed,
-                  P=[0] * parts, Q=[0] * parts, note="the quantities of %s" % listed)
+    places = shown_places(parts)
+    yield Request("a", MOST_QUANTITY, R=registered(parts), N=fifteen_of_each(places), L=listed,
+                  P=[0] * len(places), Q=[0] * len(places), note="the quantities of %s" % listed)
 
 
 def beside(parts, held, other):
@@ -195,8 +223,9 @@ def beside(parts, held, other):
 def sheets(parts, *both):
     """The sheet of both kits, and both as records one after the other, with nodes and without."""
     rows = dict(zip(map(units, both), TAGS))
-    lent, numbers = registered(parts), many_numbers(parts)
-    read = [sheet_of(numbers, [record(tag, *lines) for lines, tag in zip(order, TAGS)])
+    lent, numbers, version = registered(parts), many_numbers(parts), version_for(parts)
+    read = [sheet_of(numbers, [record(tag, *lines, version=version)
+                               for lines, tag in zip(order, TAGS)], version=version.number)
             for order in (both, both[::-1])]
     yield Request("s", R=lent, N=table(TWO_KITS_NODES, *rows.items()), O=bytes(len(read[0])),
                   note="the sheet of %s and %s" % both)
@@ -214,6 +243,16 @@ def check_of(listed, parts):
         return ["4 by an odd length"]
     number, _ = fault
     return ["4 by a place" if number == BAD_ORDER else str(number), ON_LINE % fault]
+
+
+def places_of(listed, parts):
+    """The edge places on a good list, or the place just beyond the parts, by names."""
+    fault = first_fault(listed, parts)
+    if fault is None:
+        return [GOOD_PLACE % place for place in EDGE_PLACES if place in listed[0::2]]
+    number, line = fault
+    behind = number == BEYOND_PARTS and listed[2 * line - 2] == parts + 1
+    return [BEYOND % (parts + 1)] if behind and parts + 1 in BEHIND else []
 
 
 def standing_of(row, other):
@@ -235,7 +274,7 @@ def standing_of(row, other):
 def note_pair(reached, who, parts, *both):
     """Counts what a pair of lists comes to, either way round."""
     checked = [check_of(listed, parts) for listed in both]
-    reached.note(who, *chain(*checked))
+    reached.note(who, *chain(*checked, *(places_of(listed, parts) for listed in both)))
     if checked == [[GOOD], [GOOD]]:
         rows = [units(lines_of_words(listed)) for listed in both]
         reached.note(who, *standing_of(*rows), *standing_of(*rows[::-1]))

@@ -8,14 +8,16 @@ from collections import namedtuple
 from itertools import count, islice
 
 from second.lent import Request
-from second.nodes import NODE_WORDS, nodes_of, words_of
+from second.nodes import NODE_WORDS, Node, nodes_of, words_of
 from second.refusals import NOT_SOUND, WRONG_LENGTH
 from second.register import MOST_SLOTS, numbers_of
+from second.sheet import BYTE_PLACES
 
 from . import index_requests
 from .chance import Chance
 from .counts import by_chains, counted
 from .index_requests import LARGE_LENGTHS, LONGEST_LIST, SMALL_LENGTHS
+from .many_parts import sibling_words
 from .reached import SOUND, TABLE, UNSOUND, VERDICT, WRONG
 from .tables import (
     EDGE_WORDS, LARGE_KINDS, Stock, counted_again, large_table, miscounted, parts_register,
@@ -24,11 +26,13 @@ from .tables import (
 # The kinds of tables, and the verdicts that each must get.
 LENGTHS, BROKEN, CHAINS, PATHS = "lengths", "broken tables", "broken chains", "paths"
 SIBLINGS, SWEPT, BY_CHANCE = "255 siblings", "words changed one by one", "by chance"
+FAR_LABELS, ALL_SIBLINGS = "labels around 255 and 4,000", "4,000 siblings"
 COUNTS, MISCOUNTED = "wrong counts", "counts changed by chance"
 LARGE = "4,096 nodes, %s"
 VERDICTS = {
     LENGTHS: {SOUND, UNSOUND, WRONG}, BROKEN: {SOUND, UNSOUND}, CHAINS: {SOUND, UNSOUND},
     COUNTS: {SOUND, UNSOUND}, PATHS: {SOUND, UNSOUND}, SIBLINGS: {SOUND, UNSOUND},
+    FAR_LABELS: {SOUND, UNSOUND}, ALL_SIBLINGS: {SOUND, UNSOUND},
     SWEPT: {SOUND, UNSOUND}, MISCOUNTED: {UNSOUND},
     **{LARGE % kind: {SOUND, UNSOUND} for kind in LARGE_KINDS}, BY_CHANCE: {SOUND, UNSOUND},
 }
@@ -65,18 +69,34 @@ def limits():
     yield from tables_of(CHAINS, index_requests.broken_chains())
     yield from tables_of(COUNTS, index_requests.wrong_counts())
     yield from tables_of(PATHS, index_requests.raw_paths())
-    # every number of parts, and labels beyond a byte
-    yield Table(PATHS, MOST_SLOTS, range(MOST_SLOTS + 1), raw_path((1, 2)))
-    yield around(PATHS, MOST_SLOTS, raw_path((300, 65535)))
-    siblings = table(MOST_SLOTS + 1, *(
-        ((place,), 1000 - place) for place in range(MOST_SLOTS, 0, -1)))
-    yield around(SIBLINGS, MOST_SLOTS, siblings)
+    # every number of parts that a byte tells, and labels beyond it
+    yield Table(PATHS, BYTE_PLACES, range(BYTE_PLACES + 3), raw_path((1, 2)))
+    yield around(PATHS, BYTE_PLACES, raw_path((300, 65535)))
+    for label in (BYTE_PLACES, BYTE_PLACES + 1, BYTE_PLACES + 2, 512, MOST_SLOTS):
+        yield around(FAR_LABELS, label, raw_path((1, label)))
+        yield around(FAR_LABELS, label - 1, raw_path((label - 1, label)))
+    yield around(FAR_LABELS, MOST_SLOTS, raw_path((MOST_SLOTS + 1,)))
+    siblings = table(BYTE_PLACES + 1, *(
+        ((place,), 1000 - place) for place in range(BYTE_PLACES, 0, -1)))
+    yield around(SIBLINGS, BYTE_PLACES, siblings)
     # the first and the last of 255 siblings lost from the chain, and a ring at its end
-    for at, link in ((MOST_SLOTS, 0), (1, 1), (2, 0), (MOST_SLOTS // 2, MOST_SLOTS)):
+    for at, link in ((BYTE_PLACES, 0), (1, 1), (2, 0), (BYTE_PLACES // 2, BYTE_PLACES)):
         changed = list(siblings)
         changed[at * NODE_WORDS + 2] = link
-        yield around(SIBLINGS, MOST_SLOTS, changed)
-        yield around(SIBLINGS, MOST_SLOTS, words_of(counted(nodes_of(changed), by_chains)))
+        yield around(SIBLINGS, BYTE_PLACES, changed)
+        yield around(SIBLINGS, BYTE_PLACES, words_of(counted(nodes_of(changed), by_chains)))
+
+
+def all_siblings():
+    """4,000 siblings, and the first, one of the middle and the last lost, or a ring among them."""
+    words = sibling_words()
+    yield around(ALL_SIBLINGS, MOST_SLOTS, words)
+    sibling = Node._fields.index("next_sibling")
+    for at, link in ((1, 3), (BYTE_PLACES, 0), (BYTE_PLACES + 1, BYTE_PLACES), (MOST_SLOTS - 1, 0),
+                     (MOST_SLOTS, 1), (MOST_SLOTS, MOST_SLOTS)):
+        changed = list(words)
+        changed[at * NODE_WORDS + sibling] = link
+        yield Table(ALL_SIBLINGS, MOST_SLOTS, [MOST_SLOTS], changed)
 
 
 def damaged(chance, words, times):
@@ -113,13 +133,14 @@ def large(chance, damages):
     """Tables of 4,096 nodes, whole, with damage and with wrong counts; lengths around them."""
     for length in LARGE_LENGTHS:
         yield Table(LENGTHS, 1, range(2), [0] * length)
+    yield from all_siblings()
     for kind in LARGE_KINDS:
         words = list(large_table(kind))
-        yield around(LARGE % kind, MOST_SLOTS, words)
+        yield around(LARGE % kind, BYTE_PLACES, words)
         for _ in range(damages):
             changed = damaged(chance, words, chance.pick((1, 1, 2)))
-            yield Table(LARGE % kind, MOST_SLOTS, [MOST_SLOTS], changed)
-            yield Table(MISCOUNTED, MOST_SLOTS, [MOST_SLOTS], miscounted(chance, words))
+            yield Table(LARGE % kind, BYTE_PLACES, [BYTE_PLACES], changed)
+            yield Table(MISCOUNTED, BYTE_PLACES, [BYTE_PLACES], miscounted(chance, words))
 
 
 def everything(seed, wanted, damages):

@@ -10,14 +10,16 @@ from itertools import product
 
 from second.desk import (
     CALL_LETTERS, LIST_LETTERS, LONGEST_LINE, NODES, OTHER_LINE, SHEET_BYTES, SLOTS, SPACE)
-from second.lent import Answer, Request
 from second.refusals import (
     ALREADY_HELD, BAD_NUMBER, BAD_ORDER, BAD_QUANTITY, DONE, NO_ROOM, NOT_HELD, NOT_SOUND,
     PUNCTUATION_AT_END, SHEET_AT_FAULT, TAG_TAKEN, TAG_ZERO, TOO_FAR_SHORT, TOO_MANY_UNITS,
     WRONG_LENGTH)
 
+from .many_parts import EDGE_PLACES
+from .many_ways import BEHIND, WIDE_CUT, sizes_read
 from .sheet_requests import PRINTED_SHEET
-from .ways import ALL_WAYS, CUT_SHORT, LEFT_TO_LIMITS, LIST, sheet_read
+from .version_requests import SMALLEST
+from .ways import ALL_WAYS, CUT_SHORT, LEFT_TO_LIMITS, LIST, names_of, sheet_read
 
 ANSWER = "answer %d"
 
@@ -95,8 +97,10 @@ def answers(numbers, who="%s"):
     return {(who % letter, ANSWER % number) for letter, row in numbers.items() for number in row}
 
 
-# The printed sheet must be cut at every byte.
+# The printed sheet and the smallest one of version 2 must be cut at every byte.
 CUT_AT = "r of %d bytes"
+CUTS = {CUT_SHORT: (sheet_read, range(len(PRINTED_SHEET))),
+        WIDE_CUT: (sizes_read, range(len(SMALLEST)))}
 ANY_CALL = BY_CHANCE % "any call"
 
 
@@ -108,15 +112,12 @@ class CallsReached(Reached):
         self.numbers = {letter: NUMBERS[letter] for letter in letters}
         super().__init__(
             answers(self.numbers) | self.all_ways()
-            | {(CUT_AT % size, CUT_SHORT) for size in range(len(PRINTED_SHEET))
-               if sheet_read in self.ways.get("r", [])})
+            | {(CUT_AT % size, what) for what, (way, sizes) in CUTS.items() for size in sizes
+               if way in self.ways.get("r", [])})
 
     def all_ways(self):
-        """Each call with each of its ways, as a request of nothing tells their names."""
-        nothing = Request("e")
-        done = Answer(DONE, 0, nothing.blocks)
-        return {(letter, what) for letter, row in self.ways.items()
-                for ways in row for what in ways(nothing, done)}
+        """Each call with each of its ways."""
+        return {(letter, what) for letter, row in self.ways.items() for what in names_of(row)}
 
     def ways_of(self, request, answer):
         """The ways that this request went."""
@@ -126,8 +127,9 @@ class CallsReached(Reached):
     def note_call(self, request, answer):
         """Counts one request and its right answer; tells whether it came to anything new."""
         gone = self.ways_of(request, answer)
-        if CUT_SHORT in gone:
-            self.note(CUT_AT % len(request.blocks["I"]), CUT_SHORT)
+        for what in CUTS:
+            if what in gone:
+                self.note(CUT_AT % len(request.blocks["I"]), what)
         return self.note(request.letter, ANSWER % answer.number, *gone)
 
 
@@ -150,8 +152,11 @@ class AllCallsReached(CallsReached):
 # A refusal with the line that it says.
 ON_LINE = "%d on line %d"
 GOOD = "good"
+GOOD_PLACE, BEYOND = "place %d good", "place %d just beyond the parts"
 FIXED_CHECKS = ["4 by an odd length", "above 64 units",
-                *(ON_LINE % fault for fault in product(sorted(LIST), range(1, 6)))]
+                *(ON_LINE % fault for fault in product(sorted(LIST), range(1, 6))),
+                *(GOOD_PLACE % place for place in EDGE_PLACES),
+                *(BEYOND % place for place in BEHIND)]
 CHECKS = [GOOD, "4 by a place", "5", "6"]
 STANDINGS = ["before the other", "the same", "after the other", "begins the other",
              "within the other", "not within the other", "apart from the first place on",
@@ -190,6 +195,9 @@ COUNTED = {"none": "counts of no kit", "one": "counts of one kit",
            "several": "counts of several kits and not all", "all": "counts of all kits by a list"}
 COUNTED_BEHIND = {**{letter: "kits counted behind an accepted " + letter for letter in "epkdr"},
                   None: "kits counted behind a refusal"}
+VERSIONS_WRITTEN = {1: "sheets of version 1 written and read again",
+                    2: "sheets of version 2 written and read again"}
+ALL_SLOTS_TAKEN = "catalogues of 4,000 parts were carried on"
 ENDED_ALIKE = "pairs ended alike"
 ENDED_APART = "pairs ended apart"
 SEQUENCES = "sequences"
@@ -199,7 +207,8 @@ def sequences_reached():
     """What sequences of calls come to."""
     numbers = {letter: row - {WRONG_LENGTH, NOT_SOUND} for letter, row in NUMBERS.items()}
     turns = {TOOK_LAST_NODE, LACKED_ONE_NODE, ENTERED_AGAIN, ALMOST_FILLED, BROUGHT_IN, ENDED_ALIKE,
-             ENDED_APART, *COUNTED.values(), *COUNTED_BEHIND.values()}
+             ENDED_APART, ALL_SLOTS_TAKEN, *VERSIONS_WRITTEN.values(), *COUNTED.values(),
+             *COUNTED_BEHIND.values()}
     return Reached(answers(numbers) | {(SEQUENCES, turn) for turn in turns})
 
 

@@ -1,12 +1,13 @@
 """Requests that try the register's calls: fixed ones at every limit, and ones by chance."""
 
-from itertools import chain, permutations, product
+from itertools import chain, islice, permutations, product
 
 from run.frame import ROOM
 from second.lent import Request
 from second.register import (
     LONGEST_NUMBER, MOST_SLOTS, NUMBER_BYTES, PUNCTUATION, SLOT_BYTES, filled, numbers_of,
     right_length, slot_for, sound)
+from second.sheet import BYTE_PLACES
 
 # Numbers that an integer, a trimming, a folding or a short comparison would take for each other.
 ALIKE = [
@@ -37,12 +38,20 @@ INSIDE = [b"CD_4016", b"C_4016", b"401_6", b"1_1", b"1__1", b"7_" + b"7" * 22, b
 BAD_AT_END = [b"_ ", b" _", b"_40 16", b"CD40 16_", b"_CD:4016_", b"_" + b"7" * 24,
               b"7" * 24 + b"_"]
 
-PLACES = [0, 1, 2, 3, 4, 254, 255, 256, 257, 258, 511, 512, 2048, 32767, 32768, 65535]
+PLACES = [0, 1, 2, 3, 4, 254, 255, 256, 257, 258, 511, 512, 2048, 3999, 4000, 4001, 32767, 32768,
+          65535]
 
 
 def many_numbers(count):
     """So many good numbers, no two the same."""
     return [b"%05d" % (7 * at) for at in range(count)]
+
+
+def shortest_numbers(count):
+    """So many numbers of one byte and then of two, which stand in every order."""
+    every = [bytes([byte]) for byte in NUMBER_BYTES]
+    pairs = (one + other for one, other in product(every, repeat=2))
+    return list(islice(chain(every, pairs), count))
 
 
 def many_spellings(count):
@@ -87,22 +96,23 @@ def sweeps():
 
 
 def large():
-    """Registers and numbers as large as the probe has room for; 255 spellings, 255 torn labels."""
+    """A number as large as the probe has room for; registers around 255 slots, spellings, torn
+    labels."""
     yield Request("p", R=bytes(SLOT_BYTES), I=b"7" * ROOM["I"], note="a number of 65,536 bytes")
     yield Request("l", R=slot_for(b"7"), I=b"7" * ROOM["I"], note="a number of 65,536 bytes")
     for letter in "pln":
-        for length in (8128, 8159, ROOM["R"]):
+        for length in (8128, 8159, 8200):
             yield Request(letter, 1, R=filled([b"A"], 257)[:length], I=b"A",
                           note="register of %d bytes" % length)
-    *spellings, another = many_spellings(MOST_SLOTS + 1)
+    *spellings, another = many_spellings(BYTE_PLACES + 1)
     twice = [*spellings[:-1], spellings[0]]
     for number in (spellings[0], spellings[-1], another):
         for letter in "pl":
-            yield Request(letter, R=filled(spellings, MOST_SLOTS), I=number, note="255 spellings")
-            yield Request(letter, R=filled(twice, MOST_SLOTS), I=number, note="a spelling twice")
-    torn = torn_labels(MOST_SLOTS)
+            yield Request(letter, R=filled(spellings, BYTE_PLACES), I=number, note="255 spellings")
+            yield Request(letter, R=filled(twice, BYTE_PLACES), I=number, note="a spelling twice")
+    torn = torn_labels(BYTE_PLACES)
     for letter, number in product("pl", (torn[0], torn[-1], b"00000", b"NEW-")):
-        yield Request(letter, R=filled(torn, MOST_SLOTS), I=number, note="255 torn labels")
+        yield Request(letter, R=filled(torn, BYTE_PLACES), I=number, note="255 torn labels")
 
 
 def number_lengths():
@@ -138,9 +148,9 @@ def register_lengths():
         register = filled(numbers, 3)[:length]
         for letter in "pln":
             yield Request(letter, 1, R=register, I=b"A", note="register of %d bytes" % length)
-    longest = MOST_SLOTS * SLOT_BYTES
+    longest = BYTE_PLACES * SLOT_BYTES
     for length in (longest, longest + 1, longest + SLOT_BYTES):
-        register = filled(numbers, MOST_SLOTS) + bytes(length - longest)
+        register = filled(numbers, BYTE_PLACES) + bytes(length - longest)
         for letter in "pln":
             number = b"C" if letter == "p" else b"B"
             yield Request(letter, 2, R=register, I=number, note="register of %d bytes" % length)
@@ -193,14 +203,14 @@ def slots_together():
                 yield Request(letter, R=register, I=number, note=note)
         for place in (0, 1, 2):
             yield Request("n", place, R=register, note=note)
-    many = filled(many_numbers(MOST_SLOTS - 1), MOST_SLOTS)
+    many = filled(many_numbers(BYTE_PLACES - 1), BYTE_PLACES)
     yield Request("l", R=many[:-SLOT_BYTES] + many[:SLOT_BYTES], I=b"00007",
                   note="first and last slot hold one number")
 
 
 def full_registers():
     """The last free slot; a full register with a number that is new (12), held (9) or torn (16)."""
-    for slots in (1, 3, MOST_SLOTS):
+    for slots in (1, 3, BYTE_PLACES):
         numbers = many_numbers(slots)
         full = filled(numbers, slots)
         yield Request("p", R=full, I=b"NEW", note="full register, new number")
@@ -302,13 +312,14 @@ def some_good_number(chance):
 
 def some_numbers(chance, count):
     """So many good numbers by chance, no two the same; now and then one in the other case too."""
-    numbers = []
+    numbers, met = [], set()
     while len(numbers) < count:
         number = some_good_number(chance)
         if numbers and chance.one_in(6):
             number = chance.pick(numbers).swapcase()
-        if number not in numbers:
+        if number not in met:
             numbers.append(number)
+            met.add(number)
     return numbers
 
 
@@ -316,7 +327,9 @@ def some_register(chance, used=None):
     """A sound register, often small, often full or nearly so."""
     slots = chance.pick((1, 2, 3, 4, 4, 5, 6, 8, chance.between(1, 40)))
     if chance.one_in(60):
-        slots = chance.pick((MOST_SLOTS, MOST_SLOTS - 1, chance.between(41, MOST_SLOTS)))
+        slots = chance.pick((BYTE_PLACES, BYTE_PLACES + 1, chance.between(41, 2 * BYTE_PLACES)))
+    elif chance.one_in(200):
+        slots = chance.pick((MOST_SLOTS, MOST_SLOTS - 1, chance.between(BYTE_PLACES, MOST_SLOTS)))
     if used is None:
         used = chance.pick((slots, slots, slots - 1, chance.between(0, slots)))
     return filled(some_numbers(chance, min(used, slots)), slots)

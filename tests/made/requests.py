@@ -4,7 +4,8 @@ from run.frame import COUNT, REQUEST_HEAD, ROOM, element_bytes, pack_request
 from second.lent import REQUEST_BLOCKS, WORD_BLOCKS, Request
 
 from . import (
-    almost_requests, count_requests, index_requests, register_requests, sheet_requests)
+    almost_requests, count_requests, index_requests, many_parts, register_requests, sheet_requests,
+    version_requests)
 from .chance import Chance
 
 # Who makes the requests of each letter by chance. Each maker's fixed requests are its limits
@@ -16,6 +17,8 @@ MAKERS = [
     ("#", count_requests),
     ("sr", sheet_requests),
 ]
+# Makers of fixed requests alone, of several letters.
+FIXED_MAKERS = [many_parts, version_requests]
 
 # The blocks that each call uses; it must leave the others as they are.
 USES = {
@@ -53,7 +56,7 @@ def large(letters):
 
 def chosen(letters, kind):
     """The fixed requests of one kind for these letters, from every maker."""
-    for _, maker in MAKERS:
+    for maker in [*(maker for _, maker in MAKERS), *FIXED_MAKERS]:
         for request in getattr(maker, kind)():
             if request.letter in letters:
                 yield request
@@ -109,7 +112,8 @@ def broken(letters):
             yield good + bytes([letter]) + good[1:]
     for name in REQUEST_BLOCKS:
         for count in (ROOM[name] + 1, 65536 + 1, 1 << 31, (1 << 32) - 1):
-            yield good + oversize(letters[0], name, count) + good
+            if count > ROOM[name]:
+                yield good + oversize(letters[0], name, count) + good
 
 
 def oversize(letter, name, count):

@@ -8,13 +8,16 @@ from second import calls, index, nodes, sheet
 from second.kits import lines_of
 from second.lent import Request
 from second.nodes import MOST_NODES, NODE_WORDS
-from second.register import LONGEST_NUMBER, MOST_SLOTS, SLOT_BYTES, filled, numbers_of
+from second.refusals import NO_ROOM
+from second.register import LONGEST_NUMBER, SLOT_BYTES, filled, numbers_of
+from second.sheet import BYTE_PLACES
 
 from .register_requests import (
     AT_END, BESIDE_LETTERS, CASE_PAIRS, EDGE_BYTES, many_numbers, many_spellings, punctuated,
-    torn_labels, with_byte)
+    shortest_numbers, torn_labels, with_byte)
 from .tables import (
-    LARGE_KINDS, Stock, damaged_table, large_table, parts_register, some_tables, table)
+    LARGE_KINDS, Stock, damaged_table, large_table, parts_register, some_far_kits, some_tables,
+    table)
 
 # The sheet that document 01 prints for its desk example.
 PRINTED_SHEET = bytes.fromhex(
@@ -22,6 +25,9 @@ PRINTED_SHEET = bytes.fromhex(
 
 # What an output holds before the sheet is written.
 OLD_BYTES = bytes(range(1, 251))
+
+# A sheet of more bytes is altered less often among its numbers.
+LONG_SHEET = 400
 
 # Values that a byte of a sheet is set to.
 SHEET_BYTES = sorted(set(EDGE_BYTES) | {2, 3, 4, 5, 15, 16, 24, 25, 63, 64})
@@ -32,10 +38,9 @@ def numbers(*texts):
     return b"".join(bytes([len(text)]) + text for text in texts)
 
 
-def record(tag, *lines):
-    """A kit record."""
-    return sheet.two_bytes(tag) + bytes([len(lines)]) + bytes(
-        byte for line in lines for byte in line)
+def record(tag, *lines, version=sheet.FIRST_VERSION):
+    """A kit record on a sheet of this version."""
+    return sheet.record(version, tag, lines)
 
 
 def sheet_of(part_numbers, records, parts=None, kits=None, mark=b"KIT", version=1, end=b""):
@@ -242,7 +247,7 @@ def room_for_reading():
         for sheet_bytes in (data, faulty, b""):
             yield Request("r", R=bytes(register_length), N=[0] * table_length, I=sheet_bytes,
                           note="%d register bytes, %d words" % (register_length, table_length))
-    longest = MOST_SLOTS * SLOT_BYTES
+    longest = BYTE_PLACES * SLOT_BYTES
     for length in (longest, longest + 1, longest + SLOT_BYTES):
         yield Request("r", R=bytes(length), N=[0] * 7 * NODE_WORDS, I=data,
                       note="%d register bytes" % length)
@@ -278,7 +283,7 @@ def sweeps():
 @functools.lru_cache(maxsize=None)
 def long_sheet(kind):
     """A faultless sheet near the largest that the probe has room for, of one of several kinds."""
-    parts = many_numbers(MOST_SLOTS)
+    parts = many_numbers(BYTE_PLACES)
     records = []
     size = len(sheet_of(parts, []))
     for row in long_rows(kind):
@@ -293,12 +298,12 @@ def long_sheet(kind):
 def long_rows(kind):
     """Rows in listing order: many short ones, or long ones that share little."""
     if kind == "singles":
-        for place in range(1, MOST_SLOTS + 1):
+        for place in range(1, BYTE_PLACES + 1):
             for quantity in range(1, 16):
                 yield (place,) * quantity
     elif kind == "pairs":
-        for first in range(1, MOST_SLOTS + 1):
-            for second in range(first, MOST_SLOTS + 1):
+        for first in range(1, BYTE_PLACES + 1):
+            for second in range(first, BYTE_PLACES + 1):
                 yield (first, second)
     else:
         for first in range(1, 201):
@@ -309,7 +314,7 @@ def long_rows(kind):
 
 def large():
     """Full tables written and read back, and sheets that need more nodes than 16 bits count."""
-    full = parts_register(MOST_SLOTS, MOST_SLOTS)
+    full = parts_register(BYTE_PLACES, BYTE_PLACES)
     for kind in LARGE_KINDS:
         words = large_table(kind)
         written = sheet.written(numbers_of(full), nodes.held_kits(words))
@@ -325,21 +330,27 @@ def large():
         for slots, node_count in ((255, 4096), (254, 4096), (255, 3826), (255, 3825)):
             yield reading(data, slots, node_count, "a long sheet, " + kind)
         yield reading(data[:-1], 255, 4096, "a long sheet, torn, " + kind)
-    yield from many_lines(MOST_SLOTS, 64, 65, 255)
-    for parts in (MOST_SLOTS - 1, MOST_SLOTS, MOST_SLOTS + 1):
-        for slots in (MOST_SLOTS - 1, MOST_SLOTS):
+    yield from many_lines(BYTE_PLACES, 64, 65, 255)
+    for parts in (BYTE_PLACES - 1, BYTE_PLACES, BYTE_PLACES + 1):
+        for slots in (BYTE_PLACES - 1, BYTE_PLACES):
             yield reading(sheet_of(many_numbers(parts), [record(1, (254, 1))]), slots, 2,
                           "%d parts into %d slots" % (parts, slots))
-    *spellings, another = many_spellings(MOST_SLOTS + 1)
+    *spellings, another = many_spellings(BYTE_PLACES + 1)
     for row in (spellings, [*spellings[1:], another], [*spellings[1:], spellings[1]]):
-        yield reading(sheet_of(row, [record(1, (254, 1))]), MOST_SLOTS, 2, "255 spellings")
-    yield reading(sheet_of(torn_labels(MOST_SLOTS), [record(1, (254, 1))]), MOST_SLOTS, 2,
+        yield reading(sheet_of(row, [record(1, (254, 1))]), BYTE_PLACES, 2, "255 spellings")
+    yield reading(sheet_of(torn_labels(BYTE_PLACES), [record(1, (254, 1))]), BYTE_PLACES, 2,
                   "255 torn labels")
     for length in (MOST_NODES * NODE_WORDS + 1, (MOST_NODES + 1) * NODE_WORDS):
         yield Request("r", R=bytes(32), N=[0] * length, I=sheet_of([], []),
                       note="%d words" % length)
     yield reading(b"\xff" * ROOM["I"], note="bytes of any kind")
     yield reading(b"KIT\0\1\0\0\0\0" + bytes(ROOM["I"] - 9), note="much behind the end")
+
+
+def bytes_needed(register, words):
+    """The bytes of a sheet, as a call without output tells them by 12; some for damaged tables."""
+    came = calls.answer(Request("s", R=register, N=words))
+    return came.value if came.number == NO_ROOM else len(PRINTED_SHEET)
 
 
 class Maker:
@@ -356,8 +367,8 @@ class Maker:
     def writing(self):
         """A sheet to write, mostly with about the room that it needs."""
         chance = self.chance
-        register, words, kits, _ = some_tables(chance, self.stock)
-        size = len(sheet.written(numbers_of(register), kits))
+        register, words, _, _ = some_tables(chance, self.stock)
+        size = bytes_needed(register, words)
         room = chance.pick((0, size - 1, size, size, size + 1, size + 9, chance.below(size + 20)))
         old = chance.some_bytes(chance.between(100, 200)) * (1 + room // 100)
         return Request("s", R=register, N=words, O=old[:min(room, ROOM["O"])])
@@ -365,8 +376,7 @@ class Maker:
     def reading(self):
         """A sheet to read, whole or altered, into tables of about the room that it needs."""
         chance = self.chance
-        register, words, kits = self.stock.catalogue()
-        part_numbers = numbers_of(register)
+        part_numbers, kits = self.contents()
         data = sheet.written(part_numbers, kits)
         for _ in range(chance.pick((0, 0, 1, 1, 2))):
             data = self.altered(data, part_numbers, kits)
@@ -381,6 +391,22 @@ class Maker:
             old_words = damaged_table(chance, old_words, len(part_numbers))
         return Request("r", R=old_register, N=old_words, I=data)
 
+    def contents(self):
+        """The part numbers and the kits of a sheet; now and then enough of them for version 2."""
+        chance = self.chance
+        if chance.one_in(16):
+            parts = chance.pick((254, 255, 256, 256, 257, 300))
+            return shortest_numbers(parts), some_far_kits(chance, parts)
+        register, _, kits = self.stock.catalogue()
+        return numbers_of(register), kits
+
+    def byte_of(self, data):
+        """Where a byte is changed: in a long sheet mostly in its head or in its last records."""
+        at = self.chance.below(len(data))
+        if len(data) <= LONG_SHEET:
+            return at
+        return self.chance.pick((at, at % 12, len(data) - 1 - at % 60, len(data) - 1 - at % 60))
+
     def altered(self, data, part_numbers, kits):
         """The sheet with something changed: a byte, its length, its order, its counts."""
         chance = self.chance
@@ -389,14 +415,16 @@ class Maker:
             return data + chance.some_bytes(chance.between(1, 4))
         if way == 1:
             return data[:chance.below(len(data))]
-        at = chance.below(len(data))
+        at = self.byte_of(data)
         if way in (2, 3):
             value = chance.pick((chance.pick(SHEET_BYTES), (data[at] + 1) % 256,
                                  (data[at] - 1) % 256))
             return data[:at] + bytes([value]) + data[at + 1:]
         if way == 4:
             return data[:at] + data[at + chance.between(1, 3):]
-        records = [record(tag, *lines_of(row)) for row, tag in sorted(kits.items())]
+        version = sheet.version_for(len(part_numbers))
+        records = [record(tag, *lines_of(row), version=version)
+                   for row, tag in sorted(kits.items())]
         part_numbers = list(part_numbers)
         if way == 5 and len(records) > 1:
             one, other = chance.below(len(records)), chance.below(len(records))
@@ -406,4 +434,4 @@ class Maker:
             records[one] = chance.pick((records[other], records[other][:2] + records[one][2:]))
         elif part_numbers:
             part_numbers[chance.below(len(part_numbers))] = chance.pick(part_numbers)
-        return sheet_of(part_numbers, records)
+        return sheet_of(part_numbers, records, version=version.number)

@@ -6,13 +6,15 @@ from second import index, nodes
 from second.kits import MOST_QUANTITY, MOST_UNITS
 from second.nodes import DEEPEST, FREE, MOST_NODES, NODE_WORDS, ROOT, Node
 from second.register import MOST_SLOTS, filled, numbers_of
+from second.sheet import BYTE_PLACES
 
 from .chance import Chance
 from .counts import by_chains, by_parents, counted
 from .register_requests import damaged_register, many_numbers, some_numbers
 
 # Values that a damaged word is often given: limits of depth, quantity, parts and words.
-EDGE_WORDS = [0, 1, 2, 3, 14, 15, 16, 17, 63, 64, 65, 255, 256, 32767, 32768, 65534, 65535]
+EDGE_WORDS = [0, 1, 2, 3, 14, 15, 16, 17, 63, 64, 65, 255, 256, 257, 4000, 4001, 32767, 32768,
+              65534, 65535]
 
 
 def parts_register(parts, slots=None):
@@ -75,9 +77,9 @@ def large_table(kind):
     """A sound table of 4,096 nodes beside 255 parts, of one of several shapes."""
     if kind == "pairs":
         # 255 siblings below the root, and chains below them, until all nodes are used.
-        rows = [(first,) for first in range(1, MOST_SLOTS + 1)]
-        rows += [(first, second) for first in range(1, MOST_SLOTS + 1)
-                 for second in range(first, MOST_SLOTS + 1)]
+        rows = [(first,) for first in range(1, BYTE_PLACES + 1)]
+        rows += [(first, second) for first in range(1, BYTE_PLACES + 1)
+                 for second in range(first, BYTE_PLACES + 1)]
         return tuple(table(MOST_NODES, *((row, tag) for tag, row in enumerate(
             rows[:MOST_NODES - 1], start=1))))
     if kind == "every node a kit":
@@ -109,10 +111,10 @@ def long_paths(chance, node_count):
     while free > 0:
         row = row[:chance.below(len(row) + 1)]
         while len(row) < MOST_UNITS:
-            label = min(MOST_SLOTS, (row[-1] if row else 1) + chance.pick((0, 0, 0, 1, 2, 9)))
+            label = min(BYTE_PLACES, (row[-1] if row else 1) + chance.pick((0, 0, 0, 1, 2, 9)))
             while row.count(label) >= MOST_QUANTITY:
                 label += 1
-            if label > MOST_SLOTS:
+            if label > BYTE_PLACES:
                 break
             row.append(label)
         held = index.missing_nodes(nodes.words_of(words), row)
@@ -193,6 +195,26 @@ def some_row(chance, rows, parts):
     return tuple(row)
 
 
+def some_far_kits(chance, parts):
+    """A few kits, with tags, of places around 255 and of the first and the last ones."""
+    edges = [1, 2, 254, 255, 256, 257, 258, parts - 1, parts]
+    kits = {}
+    for _ in range(chance.between(0, 6)):
+        row = tuple(sorted(min(parts, chance.pick(edges)) for _ in range(chance.between(0, 4))))
+        kits.setdefault(row, some_new_tag(chance, kits))
+    return kits
+
+
+def far_tables(chance):
+    """Both tables with about 255 parts or more, and rarely about 4,000."""
+    parts = chance.pick((255, 256, 256, 257, 258, 300, 514))
+    if chance.one_in(8):
+        parts = chance.pick((MOST_SLOTS - 1, MOST_SLOTS))
+    kits = some_far_kits(chance, parts)
+    slots = min(MOST_SLOTS, parts + chance.pick((0, 0, 1)))
+    return parts_register(parts, slots), table(chance.pick((26, 27, 40)), *kits.items())
+
+
 def upwards(row, at):
     """The numbers from a node up to the root; in a damaged table no more than a path may have."""
     passed = [at]
@@ -261,10 +283,13 @@ def with_damage(chance, words, parts):
 
 
 def some_tables(chance, stock):
-    """Both tables and the kits that they held before any damage; now and then large ones."""
+    """Both tables and the kits that they held before any damage; now and then large ones, and ones
+    with many parts."""
     if chance.one_in(250):
-        register = parts_register(MOST_SLOTS, MOST_SLOTS)
+        register = parts_register(BYTE_PLACES, BYTE_PLACES)
         words = list(large_table(chance.pick(LARGE_KINDS)))
+    elif chance.one_in(60):
+        register, words = far_tables(chance)
     else:
         register, words, _ = stock.catalogue()
     kits = nodes.held_kits(words)

@@ -7,13 +7,18 @@ from second import index, nodes, questions, register, sheet
 from second.calls import MOST_SHORT
 from second.kits import (
     LEAST_QUANTITY, MOST_QUANTITY, MOST_UNITS, beginnings, first_fault, lines_of_words, units)
+from second.lent import Answer, Request
 from second.nodes import FREE, MOST_NODES, NODE_WORDS, NONE, ROOT
 from second.refusals import (
-    BAD_NUMBER, BAD_ORDER, BAD_QUANTITY, BEYOND_PARTS, NO_ROOM, NOT_HELD, NOT_SOUND,
+    BAD_NUMBER, BAD_ORDER, BAD_QUANTITY, BEYOND_PARTS, DONE, NO_ROOM, NOT_HELD, NOT_SOUND,
     PUNCTUATION_AT_END, SHEET_AT_FAULT, TAG_ZERO, TOO_FAR_SHORT, TOO_MANY_UNITS, WRONG_LENGTH)
 from second.register import LONGEST_NUMBER, PUNCTUATION, SLOT_BYTES
 
 from .counts import by_parents, counted
+from .many_ways import (
+    BY_CHANCE_TOO, PART_COUNT_AT, hashes_lent, hashes_read, last_of_all, parts_lent, places_listed,
+    places_shown, places_told, sizes_read, sizes_written, slots_lent, versions_read,
+    versions_written)
 from .register_requests import BESIDE_LETTERS
 from .sheet_requests import PRINTED_SHEET
 
@@ -31,9 +36,6 @@ IN_CASE_ONLY = "two parts that differ in case only"
 # Numbers with one of the three bytes at one end alone, and a register that holds any such number.
 FIRST_ALONE, LAST_ALONE = "byte %02X first alone", "byte %02X last alone"
 TORN_PART = "a part with punctuation at an end"
-
-# Where the part count of a sheet stands, behind the mark and the version.
-PART_COUNT_AT = len(sheet.MARK) + sheet.TWO_BYTES
 
 
 def has_torn_part(register_bytes):
@@ -313,7 +315,7 @@ def kits_counted(asked, came):
         "a kit that begins no other": some and row in held and came.value == 1,
         "a list past a leaf": none and any(
             kit in held and questions.beginning_with(held, kit) == 1
-            for kit in beginnings([row[:-1]])),
+            for kit in beginnings([row[:-1][:MOST_UNITS]])),
         "a list beside a path": none and held and len(row) > 1 and questions.beginning_with(
             held, row[:-1]) > 1,
     }
@@ -338,9 +340,9 @@ def sheet_read(asked, came):
 def number_at_fault(data, offset):
     """The number at which this sheet is at fault, or nothing where the fault is another item."""
     items = sheet.Items(data)
-    items.at = PART_COUNT_AT
+    items.at = len(sheet.MARK)
     try:
-        sheet.read_numbers(items)
+        sheet.read_numbers(items, sheet.read_version(items))
     except sheet.SheetFault as fault:
         return data[offset + 1:items.at] if fault.offset == offset > PART_COUNT_AT else b""
     return b""
@@ -358,6 +360,13 @@ def numbers_read(asked, came):
     }
 
 
+def names_of(row):
+    """The names of these ways, as a request of nothing tells them."""
+    nothing = Request("e")
+    done = Answer(DONE, 0, nothing.blocks)
+    return {what for ways in row for what in ways(nothing, done)}
+
+
 # The limits of documents 01 and 02, as ways of each call.
 BOTH_TABLES = [tables_lent, wrong_counts]
 AND_LIST = [*BOTH_TABLES, list_given]
@@ -368,14 +377,26 @@ LIMITS = {
     "w": [*AND_LIST, first_found], "c": [*AND_LIST, first_found],
     "W": [*AND_LIST, output_into("P")], "C": [*AND_LIST, output_into("P")],
     "a": [*AND_LIST, almost_filled], "#": [*AND_LIST, kits_counted],
-    "s": [*BOTH_TABLES, output_into("O")], "r": [sheet_read, numbers_read],
+    "s": [*BOTH_TABLES, output_into("O"), versions_written],
+    "r": [sheet_read, numbers_read, versions_read],
 }
-# Those that take large requests too, each of the calls that have the way beside it.
-LARGE = {tables_lent: largest_lent, list_given: line_at_fault}
-ALL_WAYS = {letter: ways + [LARGE[way] for way in ways if way in LARGE]
+# Those that take large requests too, for each of the calls that have the way beside them.
+LARGE = {
+    tables_lent: [largest_lent, slots_lent, parts_lent], list_given: [line_at_fault, places_listed],
+    emptied: [slots_lent], registered: [slots_lent, parts_lent, places_told, last_of_all],
+    looked_up: [slots_lent, parts_lent, places_told, hashes_lent],
+    place_given: [slots_lent, parts_lent, places_shown],
+    versions_written: [sizes_written], versions_read: [slots_lent, sizes_read, hashes_read],
+}
+ALL_WAYS = {letter: ways + [large for way in ways for large in LARGE.get(way, [])]
             for letter, ways in LIMITS.items()}
 # Of these the stored run has all: with more of them it would be another one.
-STORED_WAYS = {"e": [emptied], "a": [almost_filled], "#": [wrong_counts, kits_counted]}
+STORED_WAYS = {"e": [emptied], "a": [almost_filled], "#": [wrong_counts, kits_counted],
+               "s": [versions_written], "r": [versions_read]}
+# Ways that requests by chance hardly ever go: registers are small there.
+OF_MANY_PARTS = [last_of_all, slots_lent, parts_lent, places_told, places_shown, places_listed,
+                 hashes_lent, versions_written, sizes_written, versions_read, sizes_read,
+                 hashes_read]
 # Ways that requests by chance hardly ever go.
 LEFT_TO_LIMITS = {
     "a kit of 64 units", "a kit of 65 units", "a shortfall of 64", "bytes behind the end",
@@ -383,4 +404,5 @@ LEFT_TO_LIMITS = {
     "line 256 of 4,000 at fault", "two lines at fault, and the first is said",
     "an odd list of 8,191 numbers", "an odd list with a line at fault before",
     "64 units counted", "64 units that no kit has", "65 units",
+    *names_of(OF_MANY_PARTS) - BY_CHANCE_TOO,
 }

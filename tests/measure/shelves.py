@@ -5,7 +5,7 @@ from itertools import accumulate, product
 
 from second.kits import lines_of, units
 from second.nodes import MOST_NODES, NO_TAG, NONE, ROOT
-from second.register import MOST_SLOTS
+from second.sheet import BYTE_PLACES
 
 from .growing import Growing, tag_of
 
@@ -82,8 +82,8 @@ class Popular:
 
     def __init__(self, chance):
         self.chance = chance
-        self.places = shuffled(range(1, MOST_SLOTS + 1), chance)
-        self.up_to = list(accumulate(self.SHARES // rank for rank in range(1, MOST_SLOTS + 1)))
+        self.places = shuffled(range(1, BYTE_PLACES + 1), chance)
+        self.up_to = list(accumulate(self.SHARES // rank for rank in range(1, BYTE_PLACES + 1)))
 
     def one(self):
         """A part's place."""
@@ -142,7 +142,7 @@ def variants(chance):
 
 def long_chains(chance):
     """Behind a stem of 30 units all parts that are left, and below each all that may stand."""
-    labels = range(STEM[-1] + 1, MOST_SLOTS + 1)
+    labels = range(STEM[-1] + 1, BYTE_PLACES + 1)
     ends = [(label,) for label in labels]
     ends += [(first, second) for first in labels for second in labels if first <= second]
     return entered([STEM + end for end in ends[:MOST_NODES - 1 - len(STEM)]], chance)

@@ -9,7 +9,7 @@ from second.lent import ANSWER_BLOCKS, REQUEST_BLOCKS, WORD_BLOCKS, Answer, Requ
 
 # How many elements of each block the probe has room for.
 ROOM = {
-    "R": 8200, "M": 8200, "N": 28700, "L": 8200, "I": 65536,
+    "R": 128064, "M": 128064, "N": 28700, "L": 8200, "I": 65536,
     "P": 4200, "Q": 4200, "O": 65536, "K": 66, "D": 1024,
 }
 

@@ -1,4 +1,4 @@
-"""Part numbers and the register: document 01's section of that name, requests 3 and 6."""
+"""Part numbers and the register: document 01's section of that name, requests 3, 6 and 10."""
 
 from functools import lru_cache
 
@@ -12,10 +12,11 @@ SMALL_LETTERS = b"abcdefghijklmnopqrstuvwxyz"
 PUNCTUATION = b"-./"
 NUMBER_BYTES = DIGITS + CAPITALS + SMALL_LETTERS + PUNCTUATION
 
-# "The register is lent bytes, 32 per part .. (1 to 255 parts)."
+# "The register is lent bytes, 32 per part". Request 10: it "may be up to 128,000 bytes, 4,000
+# slots".
 SLOT_BYTES = 32
 FEWEST_SLOTS = 1
-MOST_SLOTS = 255
+MOST_SLOTS = 4000
 
 # A call and the next one mostly look at the same register; so many verdicts are remembered.
 REMEMBERED = 8
@@ -34,7 +35,7 @@ def punctuation_at_end(number):
 
 
 def right_length(register):
-    """Whether "its length is a multiple of 32 from 32 to 8,160"."""
+    """Whether "its length is a multiple of 32 from 32" to request 10's 128,000."""
     slots, rest = divmod(len(register), SLOT_BYTES)
     return rest == 0 and FEWEST_SLOTS <= slots <= MOST_SLOTS
 

@@ -1,14 +1,22 @@
-"""The KIT sheet of document 01: written from numbers and kits, and read item by item."""
+"""The KIT sheet of document 01 and request 10: written from numbers and kits, read item by item."""
+
+from collections import namedtuple
 
 from .kits import (
     LEAST_QUANTITY, MOST_QUANTITY, MOST_UNITS, beginnings, lines_of, listing_order, units)
 from .register import MOST_SLOTS, good_number
 
 MARK = b"KIT"
-VERSION = 1
-# "part count in two, 0 to 255"
-MOST_PARTS = MOST_SLOTS
+ONE_BYTE = 1
 TWO_BYTES = 2
+
+# "The writer still uses version 1 up to 255 parts and version 2 beyond, where a place takes two
+# bytes"; line count and quantity take one in both.
+Version = namedtuple("Version", "number fewest_parts most_parts place_bytes")
+BYTE_PLACES = 255
+FIRST_VERSION = Version(1, 0, BYTE_PLACES, ONE_BYTE)
+SECOND_VERSION = Version(2, BYTE_PLACES + 1, MOST_SLOTS, TWO_BYTES)
+VERSIONS = (FIRST_VERSION, SECOND_VERSION)
 
 
 class SheetFault(Exception):
@@ -24,17 +32,33 @@ def two_bytes(number):
     return number.to_bytes(TWO_BYTES, "big")
 
 
+def version_for(parts):
+    """The version that a sheet of so many parts has."""
+    return next(version for version in VERSIONS if has_parts(version, parts))
+
+
+def has_parts(version, parts):
+    """Whether a sheet of this version may have so many parts."""
+    return version.fewest_parts <= parts <= version.most_parts
+
+
 def written(numbers, held):
     """The sheet of these part numbers and held kits."""
-    items = [MARK, two_bytes(VERSION), two_bytes(len(numbers))]
+    version = version_for(len(numbers))
+    items = [MARK, two_bytes(version.number), two_bytes(len(numbers))]
     for number in numbers:
         items.append(bytes([len(number)]) + number)
     items.append(two_bytes(len(held)))
     for row, tag in listing_order(held):
-        lines = lines_of(row)
-        items.append(two_bytes(tag) + bytes([len(lines)])
-                     + bytes(byte for line in lines for byte in line))
+        items.append(record(version, tag, lines_of(row)))
     return b"".join(items)
+
+
+def record(version, tag, lines):
+    """A kit record: "a two-byte tag, a one-byte line count, then per line a place .. and a
+    quantity byte"."""
+    return two_bytes(tag) + bytes([len(lines)]) + b"".join(
+        place.to_bytes(version.place_bytes, "big") + bytes([quantity]) for place, quantity in lines)
 
 
 class Items:
@@ -72,11 +96,9 @@ def read(data):
     items.begin()
     if items.take(len(MARK)) != MARK:
         raise items.fault()
-    items.begin()
-    if items.take_number(TWO_BYTES) != VERSION:
-        raise items.fault()
-    numbers = read_numbers(items)
-    kits = read_kits(items, len(numbers))
+    version = read_version(items)
+    numbers = read_numbers(items, version)
+    kits = read_kits(items, version, len(numbers))
     items.begin()
     # "The end is at fault when bytes remain."
     if items.at != len(data):
@@ -84,24 +106,39 @@ def read(data):
     return numbers, kits
 
 
-def read_numbers(items):
-    """The part count and the part numbers."""
+def read_version(items):
+    """The version; any other number is at fault."""
+    items.begin()
+    number = items.take_number(TWO_BYTES)
+    for version in VERSIONS:
+        if version.number == number:
+            return version
+    raise items.fault()
+
+
+def read_numbers(items, version):
+    """The part count and the part numbers.
+
+    "a version 2 sheet with 255 parts or fewer is at fault at its part count"; so is one with more
+    parts than its version has.
+    """
     items.begin()
     parts = items.take_number(TWO_BYTES)
-    if parts > MOST_PARTS:
+    if not has_parts(version, parts):
         raise items.fault()
-    numbers = []
+    numbers, met = [], set()
     for _ in range(parts):
         items.begin()
-        number = items.take(items.take_number(1))
+        number = items.take(items.take_number(ONE_BYTE))
         # "against a rule above, repeated (number or tag)"
-        if not good_number(number) or number in numbers:
+        if not good_number(number) or number in met:
             raise items.fault()
         numbers.append(number)
+        met.add(number)
     return numbers
 
 
-def read_kits(items, parts):
+def read_kits(items, version, parts):
     """The kit count and the kits, rows with tags."""
     items.begin()
     count = items.take_number(TWO_BYTES)
@@ -109,7 +146,7 @@ def read_kits(items, parts):
     tags = set()
     for _ in range(count):
         items.begin()
-        row, tag = read_record(items, parts)
+        row, tag = read_record(items, version, parts)
         if tag in tags:
             raise items.fault()
         # "for a kit, not after the one before it in listing order"
@@ -120,15 +157,15 @@ def read_kits(items, parts):
     return kits
 
 
-def read_record(items, parts):
+def read_record(items, version, parts):
     """One kit record: its row and tag, or the fault when a rule for lists or kits is broken."""
     tag = items.take_number(TWO_BYTES)
     if tag == 0:
         raise items.fault()
     lines = []
-    for _ in range(items.take_number(1)):
-        place = items.take_number(1)
-        quantity = items.take_number(1)
+    for _ in range(items.take_number(ONE_BYTE)):
+        place = items.take_number(version.place_bytes)
+        quantity = items.take_number(ONE_BYTE)
         rising = not lines or place > lines[-1][0]
         if not (1 <= place <= parts and rising and LEAST_QUANTITY <= quantity <= MOST_QUANTITY):
             raise items.fault()

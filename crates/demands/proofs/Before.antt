@@ -10,8 +10,6 @@ use Rattle.ground.proofs.Laws.{and-left, and-right, and-both}
 use Rattle.register.specs.Number.{between, isPunctuation, goodByte, goodNumber}
 use Rattle.sheet.specs.Reading.{Item, item, fault, Reading, onward, one, numberSize, newNumber, numbers, front, decode, isFault}
 use Rattle.demands.specs.Before.{goodByteBefore, goodNumberBefore, newNumberBefore, numbersBefore, frontBefore, decodeBefore, OldSheets}
-use Rattle.demands.specs.Before.{BeforeCases}
-use Rattle.demands.proofs.Opened.{opened}
 
 ------------------------------------------------------------------------
 -- A wider rule
@@ -91,7 +89,3 @@ front-wider bs o e =
 pub old-sheets : OldSheets
 unfolding decode decodeBefore
 old-sheets s e = onward-wider (frontBefore s 0) (front s 0) _ _ (front-wider s 0) (λ f bs o _. refl) e
-
-pub before-cases : BeforeCases
-unfolding opened goodByteBefore goodNumberBefore newNumberBefore numbersBefore frontBefore decodeBefore
-before-cases = (refl, refl, refl)

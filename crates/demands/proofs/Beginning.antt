@@ -17,13 +17,9 @@ use Rattle.sheet.specs.Sheet.{Contents}
 use Rattle.tables.specs.Lent.{lentList}
 use Rattle.catalogue.specs.Calls.{counting}
 use Rattle.demands.specs.Beginning.{CountSays, CountAnswers, CountsNone, CountsMore, BeginsExactly, NoneBeginsExactly, EmptyCountsAll}
-use Rattle.demands.specs.Beginning.{counted, countedLess, CountCases}
-use Rattle.demands.specs.Limits.{fiveParts}
 use Rattle.demands.specs.Model.{entered}
-use Rattle.demands.specs.ShortCases.{insertRows, holding}
 use Rattle.demands.proofs.Answers.{behind-tables}
 use Rattle.demands.proofs.Brought.{Brought, brought}
-use Rattle.demands.proofs.Opened.{opened}
 
 pub count-says : CountSays
 unfolding answer counting decide
@@ -84,10 +80,3 @@ none-begins-exactly r (k ∷ ks) = go (begins r (k .row)) refl (none-begins-exac
 pub empty-counts-all : EmptyCountsAll
 unfolding listFaults linesFaults decide units
 empty-counts-all a h = count-answers a [] h ∙ ap done (count-all (entered a .kits))
-
-------------------------------------------------------------------------
--- Computed
-
-pub count-cases : CountCases
-unfolding opened insertRows holding counted countedLess fiveParts
-count-cases = (refl, refl, refl, refl, refl, refl, refl, refl, refl)

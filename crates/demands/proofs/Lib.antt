@@ -16,8 +16,6 @@ pub mod LaidDown
 pub mod Shown
 pub mod Offsets
 pub mod Values
-pub mod Opened
 pub mod Before
+pub mod Versions
 pub mod Torn
-pub mod ShortCases
-pub mod Limits

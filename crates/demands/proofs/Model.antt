@@ -9,7 +9,8 @@ use Rattle.ground.proofs.Laws.{by-cond, eqList-refl, eqList-true}
 use Rattle.nodes.specs.Held.{Kit, inOrder, dropKit, tagIn}
 use Rattle.nodes.proofs.Lists.{never, zero-or}
 use Rattle.nodes.proofs.Sorted.{Every, Rising, none, also, ahead, every-mem, rising-weaken}
-use Rattle.nodes.proofs.Listing.{Earlier, OtherRow, listing-same, earlier-other, order-mem, mem-order, order-rises, drop-rises, drop-mem, drop-keep, tag-in, tag-from}
+use Rattle.nodes.proofs.Listing.{Earlier, OtherRow, listing-same, earlier-other, order-mem, mem-order, order-rises, drop-rises}
+use Rattle.nodes.proofs.Listing.{drop-mem, drop-keep, tag-in, tag-from}
 
 -- kits in listing order have different rows
 pub apart : {ks : List Kit} → Rising Earlier ks → Rising OtherRow ks

@@ -4,19 +4,22 @@ use mathlib.Core.Bool.{Bool, true, false, _&&_, cond}
 use mathlib.Core.List.{List, [], _∷_}
 use Prim.Native.Nat.{ℕ, zero, suc, _+_, _*_, _≤_, _<_}
 use native.Mathlib.Omega.{arith}
-use lib.ListN.{length, take, drop}
+use lib.ListN.{length, take, drop, getD}
 use lib.Seq.{length-take-le}
 use lib.Dec.{leb}
 use borrow.Author.Tests.{leb-true}
-use Rattle.ground.specs.Limits.{twoLimit}
+use Rattle.ground.specs.Limits.{twoLimit, mostParts}
 use Rattle.ground.specs.Lists.{eqList, isZero}
+use Rattle.ground.proofs.Laws.{every-at}
 use Rattle.nodes.specs.Held.{Kit}
 use Rattle.sheet.specs.Bytes.{fromBytes, Bytes}
-use Rattle.sheet.specs.Sheet.{Contents, mark, placeBytes}
+use Rattle.sheet.specs.Sheet.{Contents, mark}
+use Rattle.sheet.specs.Inner.{Width}
 use Rattle.sheet.specs.Reading.{Item, item, fault, Reading, onward, one, bytes, isVersion, goodPartCount, anyTwo, numberSize, newNumber}
 use Rattle.sheet.specs.Reading.{numbers, recordSize, newKit, kitIn, Run, stop, also, unless, records, Front, front, runOf, whole, decode}
 use Rattle.sheet.specs.Reading.{offset}
 use Rattle.sheet.proofs.Numbers.{bytes-take, bytes-drop, from-less}
+use Rattle.sheet.proofs.Widths.{lines-most, version-width}
 
 -- a reading that comes at most n bytes far, and what is known of what it read and of the bytes behind
 data Read {A : Type 0} (P : A → List ℕ → Type 0) (n : ℕ) : Item A → Type 0 where
@@ -66,51 +69,57 @@ numbers-read (suc n) seen bs o h =
     onward-read _ (numbers-read n (drop 1 b ∷ seen) rest p (w .bytes-behind)) (omega arith) (λ ns last q v k.
     read {o = q} v (omega arith)))
 
--- the front: mark, version, part count, at most 255 numbers, kit count
+-- the front: mark, version, part count, at most 4,000 numbers, kit count
 abbrev frontMost : ℕ
-frontMost = 65289
+frontMost = 1024009
 
 record Announced (f : Front) (bs : List ℕ) : Type 0 where
   few : f .announced < twoLimit
   behind : Bytes bs
 
-count-few : (b : List ℕ) → goodPartCount b ≡ true → fromBytes b ≤ 255
+count-few : (v : ℕ) (b : List ℕ) → goodPartCount v b ≡ true → fromBytes b ≤ mostParts
 unfolding goodPartCount
-count-few b e = leb-true (fromBytes b) 255 e
+count-few v b e = leb-true (fromBytes b) mostParts (every-at _ 0 e)
 
 front-read : (s : List ℕ) → Bytes s → Read Announced frontMost (front s 0)
 unfolding front bytes
 front-read s h =
     onward-read _ (one-read (bytes 3) (eqList mark) s 0 3 h (omega arith)) (omega arith) (λ m r1 o1 w1 l1.
     onward-read _ (one-read (bytes 2) isVersion r1 o1 5 (w1 .bytes-behind) (omega arith)) (omega arith) (λ v r2 o2 w2 l2.
-    onward-read _ (one-read (bytes 2) goodPartCount r2 o2 7 (w2 .bytes-behind) (omega arith)) (omega arith) (λ p r3 o3 w3 l3.
-    onward-read _ (numbers-read (fromBytes p) [] r3 o3 (w3 .bytes-behind)) (omega (arith, count-few p (w3 .is-good))) (λ ns r4 o4 w4 l4.
-    onward-read _ (one-read (bytes 2) anyTwo r4 o4 frontMost w4 (omega (arith, count-few p (w3 .is-good)))) (omega arith) (λ k r5 o5 w5 l5.
+    onward-read _ (one-read (bytes 2) (goodPartCount (fromBytes v)) r2 o2 7 (w2 .bytes-behind) (omega arith)) (omega arith) (λ p r3 o3 w3 l3.
+    onward-read _ (numbers-read (fromBytes p) [] r3 o3 (w3 .bytes-behind)) (omega (arith, count-few (fromBytes v) p (w3 .is-good))) (λ ns r4 o4 w4 l4.
+    onward-read _ (one-read (bytes 2) anyTwo r4 o4 frontMost w4 (omega (arith, count-few (fromBytes v) p (w3 .is-good)))) (omega arith) (λ k r5 o5 w5 l5.
     read {o = o5} (record { few = from-less 2 k (w5 .long) (w5 .bytes-in); behind = w5 .bytes-behind }) l5)))))
 
--- the kit records: each takes at most 513 bytes
-records-far : (n parts : ℕ) (seen : List Kit) (bs : List ℕ) (o : ℕ) → Bytes bs → records placeBytes n parts seen bs o .offset ≤ o + n * 513
-unfolding records recordSize unless
-records-far zero parts seen bs o h = omega arith
-records-far (suc n) parts seen bs o h =
-    go (one-read (recordSize placeBytes) (newKit placeBytes parts seen) bs o (o + 513) h (omega (arith, h 2)))
-    (λ b rest p w l. records-far n parts (kitIn placeBytes b ∷ seen) rest p (w .bytes-behind))
-  where
-    go : {m : Item (List ℕ)} {z : ℕ} → Read (Whole z (newKit placeBytes parts seen)) (o + 513) m →
-        ((b rest : List ℕ) (p : ℕ) → Whole z (newKit placeBytes parts seen) b rest → p ≤ o + 513 → records placeBytes n parts
-        (kitIn placeBytes b ∷ seen) rest p .offset ≤ p + n * 513)
-        → unless m (stop (suc n) bs o)
-        (λ b rest p. also (kitIn placeBytes b) (records placeBytes n parts (kitIn placeBytes b ∷ seen) rest p)) .offset ≤ o + suc n * 513
-    go (read {a = b} {bs = rest} {o = p} w l) f = omega (arith, f b rest p w l)
-    go (stopped l) f = omega arith
+-- the kit records: each takes at most 768 bytes
+module _ (w : ℕ) (width : Width w) where
+  record-far : (bs : List ℕ) → Bytes bs → recordSize w bs ≤ 768
+  unfolding recordSize
+  record-far bs h = omega (arith, lines-most width (getD bs 2 0) 255 (omega (arith, h 2)))
+
+  records-far : (n parts : ℕ) (seen : List Kit) (bs : List ℕ) (o : ℕ) → Bytes bs → records w n parts seen bs o .offset ≤ o + n * 768
+  unfolding records unless
+  records-far zero parts seen bs o h = omega arith
+  records-far (suc n) parts seen bs o h =
+      go (one-read (recordSize w) (newKit w parts seen) bs o (o + 768) h (omega (arith, record-far bs h)))
+      (λ b rest p t l. records-far n parts (kitIn w b ∷ seen) rest p (t .bytes-behind))
+    where
+      go : {m : Item (List ℕ)} {z : ℕ} → Read (Whole z (newKit w parts seen)) (o + 768) m →
+          ((b rest : List ℕ) (p : ℕ) → Whole z (newKit w parts seen) b rest → p ≤ o + 768 →
+          records w n parts (kitIn w b ∷ seen) rest p .offset ≤ p + n * 768)
+          → unless m (stop (suc n) bs o) (λ b rest p. also (kitIn w b) (records w n parts (kitIn w b ∷ seen) rest p)) .offset ≤ o + suc n * 768
+      go (read {a = b} {bs = rest} {o = p} t l) f = omega (arith, f b rest p t l)
+      go (stopped l) f = omega arith
 
 -- the sheet
 abbrev pub farthest : ℕ
-farthest = 33684744
+farthest = 51354889
 
 run-far : (f : Front) (bs : List ℕ) (o : ℕ) → Announced f bs → o ≤ frontMost → runOf f bs o .offset ≤ farthest
 unfolding runOf
-run-far f bs o w l = omega (arith, records-far (f .announced) (length (f .parts)) [] bs o (w .behind), w .few)
+run-far f bs o a l =
+    let n = length (f .parts) in
+    omega (arith, records-far _ (version-width n) (f .announced) n [] bs o (a .behind), a .few)
 
 abbrev Any : Contents → List ℕ → Type 0
 Any c bs = length bs ≡ length bs

@@ -1,5 +1,5 @@
 -- Request 6: 16 on registration, whether the number is held or not; whatever is held is found and shown.
-use mathlib.Core.Path.{_≡_, refl, sym, ap, _∙_}
+use mathlib.Core.Path.{_≡_, sym, ap, _∙_}
 use mathlib.Core.Bool.{true}
 use mathlib.Core.List.{List, []}
 use Prim.Native.Nat.{ℕ, _-_, _≤_, _<_}
@@ -13,11 +13,10 @@ use Rattle.register.proofs.Laws.{look-up-exactly}
 use Rattle.catalogue.specs.Calls.{registerPart, planOf}
 use Rattle.demands.specs.Model.{entered, tablesOf}
 use Rattle.demands.specs.Demand1.{told}
-use Rattle.demands.specs.Torn.{tornTables, TornRefused, HeldFound, TornCases}
+use Rattle.demands.specs.Torn.{TornRefused, HeldFound}
 use Rattle.demands.proofs.Brought.{brought}
 use Rattle.demands.proofs.Told.{told-exactly}
 use Rattle.demands.proofs.Shown.{number-good}
-use Rattle.demands.proofs.Opened.{opened}
 
 pub torn-refused : TornRefused
 unfolding told decide
@@ -35,7 +34,3 @@ held-found a p h some held =
     let here : getD (partsOf R) (p - 1) [] ≡ n = ap (λ (ps : List (List ℕ)). getD ps (p - 1) []) e in
     let good : goodNumber n ≡ true = ap goodNumber (sym here) ∙ number-good R (b .both .ready) (p - 1) placed in
     (look-up-exactly n R p (b .both .ready) good some .1 (inside, here), showing-done R (b .both .ready) p some inside)
-
-pub torn-cases : TornCases
-unfolding opened tornTables
-torn-cases = (refl, refl, refl, refl, refl, refl)

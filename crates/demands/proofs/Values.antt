@@ -18,7 +18,7 @@ use Rattle.register.specs.Register.{partsOf, placeFrom, placeIn}
 use Rattle.register.specs.Calls.{lentRegister, numberRefusals, registering, lookingUp, showing}
 use Rattle.register.specs.Inner.{Ready}
 use Rattle.register.proofs.Slots.{number-short}
-use Rattle.kits.specs.Kits.{mostUnits, mostPlace, units, lineValue, lineFaults, linesFaults, listFaults}
+use Rattle.kits.specs.Kits.{mostUnits, mostPlace, listOf, units, lineValue, lineFaults, linesFaults, listFaults}
 use Rattle.kits.specs.Inner.{GoodRow}
 use Rattle.nodes.specs.Held.{Kit, held, tagIn, tagsOf, firstTag, beginnings, addNew, allBeginnings}
 use Rattle.nodes.proofs.Lists.{zero-or}
@@ -32,11 +32,13 @@ use Rattle.questions.specs.Questions.{isWithin, isContaining, fitting, anyOf, a
 use Rattle.questions.proofs.Meaning.{fitting-exactly}
 use Rattle.shortfalls.specs.Shortfalls.{isAlmost}
 use Rattle.sheet.specs.Bytes.{inBytes, two, Bytes}
-use Rattle.sheet.specs.Sheet.{Contents, contentsOf, placeBytes, numberItem, numberItems, recordItem, recordItems, encode, nodesNeeded}
-use Rattle.sheet.specs.Inner.{goodKit}
+use Rattle.sheet.specs.Sheet.{Contents, contentsOf, placeBytes, lineWords, numberItem, numberItems, recordItem, recordItems, encodeAs, encode}
+use Rattle.sheet.specs.Sheet.{nodesNeeded}
+use Rattle.sheet.specs.Inner.{mostItem, mostRecord, goodKit}
 use Rattle.sheet.specs.Reading.{decode, said}
 use Rattle.sheet.specs.Calls.{sheetRefusals, roomRefusals}
 use Rattle.sheet.proofs.Lines.{record-size, lines-few}
+use Rattle.sheet.proofs.Widths.{lines-most, version-width}
 use Rattle.sheet_write.proofs.Records.{number-size}
 use Rattle.sheet_read.proofs.Listed.{Fits, fitting-fits, kit-fits}
 use Rattle.sheet_read.proofs.Reading.{said-again}
@@ -308,24 +310,32 @@ module _ (c : Contents) (F : Fits c) where
   row-short k m =
       kit-fits (length (c .parts)) mostPlace k (F .few-parts) (allb-mem (goodKit (length (c .parts))) (c .kits) k (F .kits-good) m) .row
 
-  numbers-long : length (numberItems (c .parts)) ≤ length (c .parts) * 25
+  numbers-long : length (numberItems (c .parts)) ≤ length (c .parts) * mostItem
   unfolding numberItems
   numbers-long =
-      concat-long numberItem 25 (c .parts)
+      concat-long numberItem mostItem (c .parts)
       (λ p m. omega (arith, number-size p, number-short p (allb-mem goodNumber (c .parts) p (F .numbers-good) m)))
 
-  records-long : length (recordItems placeBytes (c .kits)) ≤ length (c .kits) * 131
+  -- in how many bytes its places stand
+  abbrev width : ℕ
+  width = placeBytes (length (c .parts))
+
+  record-long : (k : Kit) → List·Memᴰ k (c .kits) → length (recordItem width k) ≤ mostRecord
+  record-long k m =
+      let n = length (listOf (k .row)) / lineWords in
+      let few : n ≤ mostUnits = omega (arith, lines-few (k .row), row-short k m .short) in
+      omega (arith, record-size width (k .row) (k .tag) (row-short k m), lines-most (version-width (length (c .parts))) n mostUnits few)
+
+  records-long : length (recordItems width (c .kits)) ≤ length (c .kits) * mostRecord
   unfolding recordItems
-  records-long =
-      concat-long (recordItem placeBytes) 131 (c .kits)
-      (λ k m. omega (arith, record-size (k .row) (k .tag) (row-short k m), lines-few (k .row), row-short k m .short))
+  records-long = concat-long (recordItem width) mostRecord (c .kits) record-long
 
   sheet-small : length (encode c) < limit
-  unfolding encode inBytes
+  unfolding encode encodeAs inBytes
   sheet-small =
       omega (
         arith,
-        length-append (numberItems (c .parts)) (two (length (c .kits)) ++ recordItems placeBytes (c .kits)),
+        length-append (numberItems (c .parts)) (two (length (c .kits)) ++ recordItems width (c .kits)),
         numbers-long,
         records-long,
         F .few-parts,

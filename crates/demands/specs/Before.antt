@@ -10,10 +10,8 @@ use Rattle.ground.specs.Lists.{allb, anyb, every, eqList}
 use Rattle.register.specs.Number.{longestNumber, between, isPunctuation}
 use Rattle.sheet.specs.Bytes.{fromBytes, twoBytes}
 use Rattle.sheet.specs.Sheet.{Contents, mark, markBytes}
-use Rattle.sheet.specs.Reading.{Item, item, fault, Reading, onward, _>>=_, give, one, bytes, anyTwo, isVersion, goodPartCount, numberSize}
+use Rattle.sheet.specs.Reading.{Item, Reading, onward, _>>=_, give, one, bytes, anyTwo, isVersion, goodPartCount, numberSize}
 use Rattle.sheet.specs.Reading.{Front, runOf, whole, decode, isFault}
-use Rattle.demands.specs.Model.{has}
-use Rattle.demands.specs.ShortCases.{exampleSheet, exampleSays}
 
 -- "a digit, a capital A to Z, hyphen, full stop or slash"
 unfoldable pub goodByteBefore : ℕ → Bool
@@ -37,7 +35,7 @@ unfoldable pub frontBefore : Reading Front
 frontBefore = do
   m ← one (bytes markBytes) (eqList mark)
   v ← one (bytes twoBytes) isVersion
-  p ← one (bytes twoBytes) goodPartCount
+  p ← one (bytes twoBytes) (goodPartCount (fromBytes v))
   ns ← numbersBefore (fromBytes p) []
   k ← one (bytes twoBytes) anyTwo
   give (record { parts = ns; announced = fromBytes k })
@@ -48,14 +46,3 @@ decodeBefore s = onward (frontBefore s 0) (λ f bs o. whole (f .parts) (runOf f 
 -- [14.22] every sheet that was accepted by the rule before is accepted, and says the same. Proof: `old-sheets`
 abbrev pub OldSheets : Type 0
 OldSheets = (s : List ℕ) → isFault (decodeBefore s) ≡ false → decode s ≡ decodeBefore s
-
--- the sheet of one part, 74ls00
-abbrev pub smallSheet : List ℕ
-smallSheet = 0x4B ∷ 0x49 ∷ 0x54 ∷ 0 ∷ 1 ∷ 0 ∷ 1 ∷ 6 ∷ 0x37 ∷ 0x34 ∷ 0x6C ∷ 0x73 ∷ 0x30 ∷ 0x30 ∷ 0 ∷ 0 ∷ []
-
--- [14.22] computed: the document's sheet is an old one; one with small letters is not, and is accepted now. Proof: `before-cases`
-abbrev pub BeforeCases : Type 0
-BeforeCases =
-    (decodeBefore exampleSheet ≡ item exampleSays [] 34)
-    × (decodeBefore smallSheet ≡ fault 7)
-    × (decode smallSheet ≡ item (has ((0x37 ∷ 0x34 ∷ 0x6C ∷ 0x73 ∷ 0x30 ∷ 0x30 ∷ []) ∷ []) []) [] 16)

@@ -3,18 +3,16 @@
 use mathlib.Core.Path.{_≡_}
 use mathlib.Core.Logic.{_↔_}
 use mathlib.Core.Bool.{true, false, cond}
-use mathlib.Core.List.{List, List·Memᴰ, [], _++_, _∷_, map}
+use mathlib.Core.List.{List, List·Memᴰ, [], _++_, _∷_}
 use Prim.Native.Nat.{_+_, ℕ}
-use lib.ListN.{length, replicate}
-use Rattle.ground.specs.Calls.{Reply, answer, decide, done, memory, refused}
-use Rattle.ground.specs.Tables.{Tables, tables}
-use Rattle.kits.specs.Kits.{begins, listFaults, listOf, units}
+use lib.ListN.{length}
+use Rattle.ground.specs.Calls.{answer, decide, done}
+use Rattle.ground.specs.Tables.{Tables}
+use Rattle.kits.specs.Kits.{begins, listFaults, units}
 use Rattle.nodes.specs.Held.{Kit, countBeginning, listed}
-use Rattle.catalogue.specs.Calls.{counting, deleting}
+use Rattle.catalogue.specs.Calls.{counting}
 use Rattle.demands.specs.Demand2.{Asked}
-use Rattle.demands.specs.Limits.{badRegister, fiveParts, sixtyAnd}
 use Rattle.demands.specs.Model.{Allowed, Catalogue, entered, tablesOf}
-use Rattle.demands.specs.ShortCases.{holding}
 
 -- of tables that are asked and not refused: how many of the kits begin with the units. Proof: `count-says`
 abbrev pub CountSays : Type 0
@@ -50,35 +48,3 @@ NoneBeginsExactly =
 -- [14.25] so from any list of calls the empty list counts all kits entered. Proof: `empty-counts-all`
 abbrev pub EmptyCountsAll : Type 0
 EmptyCountsAll = (a : Catalogue) → Allowed a → answer (counting [] (tablesOf a)) ≡ done (length (entered a .kits))
-
-------------------------------------------------------------------------
--- Computed
-
--- what is answered where kits of these units are held
-unfoldable pub counted : List (List ℕ) → List ℕ → Reply
-counted rs r = answer (counting (listOf r) (holding rs))
-
-abbrev pub threeRows : List (List ℕ)
-threeRows = (1 ∷ []) ∷ (1 ∷ 1 ∷ []) ∷ (2 ∷ []) ∷ []
-
--- and where the first of them was deleted
-unfoldable pub countedLess : List ℕ → Reply
-countedLess r = let T = holding threeRows in answer (counting (listOf r) (memory (deleting (1 ∷ 1 ∷ []) T) T))
-
--- [14.16] Proof: `count-cases`
-abbrev pub CountCases : Type 0
-CountCases =
-    -- no kit; the empty kit
-    (map (counted []) ([] ∷ (1 ∷ []) ∷ []) ≡ done 0 ∷ done 0 ∷ [])
-    × (map (counted ([] ∷ [])) ([] ∷ (1 ∷ []) ∷ []) ≡ done 1 ∷ done 0 ∷ [])
-    -- (1), (1, 1), (2): all, those below a kit and the kit itself, a kit alone; beyond a kit, beside one, nowhere
-    × (map (counted threeRows) ([] ∷ (1 ∷ []) ∷ (1 ∷ 1 ∷ []) ∷ (2 ∷ []) ∷ []) ≡ done 3 ∷ done 2 ∷ done 1 ∷ done 1 ∷ [])
-    × (map (counted threeRows) ((1 ∷ 1 ∷ 1 ∷ []) ∷ (1 ∷ 2 ∷ []) ∷ (3 ∷ []) ∷ []) ≡ replicate 3 (done 0))
-    -- (1, 3) contains {3} and does not begin with it
-    × (map (counted ((1 ∷ 3 ∷ []) ∷ [])) ((1 ∷ []) ∷ (3 ∷ []) ∷ []) ≡ done 1 ∷ done 0 ∷ [])
-    -- (1) deleted
-    × (map countedLess ([] ∷ (1 ∷ []) ∷ (1 ∷ 1 ∷ []) ∷ []) ≡ done 2 ∷ done 1 ∷ done 1 ∷ [])
-    -- 65 units; a list at fault, and then 2 before it
-    × (answer (counting (sixtyAnd 5) (fiveParts 1)) ≡ done 0)
-    × (map (λ l. answer (counting l (fiveParts 1))) ((1 ∷ []) ∷ (6 ∷ 1 ∷ []) ∷ (1 ∷ 16 ∷ []) ∷ []) ≡ refused 4 1 ∷ refused 5 1 ∷ refused 6 1 ∷ [])
-    × (answer (counting (1 ∷ []) (tables badRegister (fiveParts 1 .nodes))) ≡ refused 2 0)

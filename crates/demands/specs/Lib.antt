@@ -1,4 +1,4 @@
--- The three demands as statements, the document's own examples, and its limits.
+-- The three demands as statements, what the requests ask, and what the promises pin.
 pub mod Model
 pub mod Demand1
 pub mod AtFault
@@ -7,7 +7,6 @@ pub mod Almost
 pub mod Beginning
 pub mod Demand3
 pub mod Pins
-pub mod ShortCases
 pub mod Before
+pub mod Versions
 pub mod Torn
-pub mod Limits

@@ -9,8 +9,8 @@ use Rattle.nodes.specs.Nodes.{depth, rowOf}
 use Rattle.nodes.specs.Inner.{Live, Shape}
 use Rattle.nodes.proofs.Rows.{climb, row-root, row-length}
 use Rattle.index_links.specs.Links.{nodeOf, oneMore, recount}
-use Rattle.index_links.specs.Inner.{CountsIn}
-use Rattle.index_links.proofs.Recount.{recount-alike}
+use Rattle.index_links.specs.Inner.{CanMove, moved}
+use Rattle.index_links.proofs.Recount.{recount-alike, one-on}
 use Rattle.index_insert.specs.Enter.{enterBelow, enter, lacks}
 use Rattle.index_insert.proofs.Entered.{Entered, entered}
 use Rattle.index_insert.proofs.Ends.{node-of-row}
@@ -28,8 +28,8 @@ module _ {N last row M : List ℕ} {n r : ℕ} (t : ℕ) (A : Appendable N n las
   live : Live M (r - 1)
   live = edge-live S (L .edge)
 
-  pub last-counts : CountsIn M (r - 1)
-  last-counts = record { shape = S; live = live; few = rw e (λ j. omega (arith, done .tallies j, A .few j)) }
+  pub last-counts : CanMove M (r - 1) 0 1
+  last-counts = record { shape = S; live = live; few = omega arith; able = rw e (λ j _. (omega arith, omega (arith, done .tallies j, A .few j))) }
 
   end-is : nodeOf M 0 row ≡ r - 1
   end-is = node-of-row S row 0 (r - 1) (λ g. absurd (omega arith)) live (L .is ∙ ap (λ (x : List ℕ). x ++ row) (sym (row-root (climb S))))
@@ -37,9 +37,9 @@ module _ {N last row M : List ℕ} {n r : ℕ} (t : ℕ) (A : Appendable N n las
   deep : depth M (r - 1) ≡ length row
   deep = sym (row-length (climb S) (r - 1) live) ∙ ap length (L .is)
 
-  pub last-counted : {K : List ℕ} → K ≡ recount oneMore M (depth M (r - 1)) (r - 1) → (K ≡ enter N row t) × LastEntered K r row
+  pub last-counted : {K : List ℕ} → K ≡ recount (moved 0 1) M (depth M (r - 1)) (r - 1) → (K ≡ enter N row t) × LastEntered K r row
   unfolding enter
   last-counted {K} k = (
-    k ∙ ap₂ (recount oneMore M) deep (sym end-is) ∙ ap (λ (X : List ℕ). recount oneMore X (length row) (nodeOf X 0 row)) e,
-    subst (λ (x : List ℕ). LastEntered x r row) (sym k) (alike-last (recount-alike oneMore M (depth M (r - 1)) (r - 1)) L),
+    k ∙ one-on M (depth M (r - 1)) (r - 1) ∙ ap₂ (recount oneMore M) deep (sym end-is) ∙ ap (λ (X : List ℕ). recount oneMore X (length row) (nodeOf X 0 row)) e,
+    subst (λ (x : List ℕ). LastEntered x r row) (sym k) (alike-last (recount-alike (moved 0 1) M (depth M (r - 1)) (r - 1)) L),
   )

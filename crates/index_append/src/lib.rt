@@ -7,8 +7,8 @@ ghost use Rattle.kits.specs.Kits.{mostUnits};
 ghost use Rattle.kits.specs.Inner.{unitsIn};
 ghost use Rattle.index_insert.specs.Enter.{enterBelow, enter};
 ghost use Rattle.index_append.specs.Inner.{LastEntered, Appendable, Agrees, Appends};
-use index_links::count_in;
 use index_links::link_behind;
+use index_links::move_tallies;
 use index_links::put_tag;
 use kits::Row;
 use kits::agree;
@@ -71,6 +71,6 @@ pub fn append_row(nodes: &mut [u16], prev: Row, row: Row, n: usize, t: u16) -> u
     let places = row.places;
     let len = row.len;
     let used = append(nodes, &places[..len], shared, n, t);
-    count_in(nodes, used - 1);
+    move_tallies(nodes, used - 1, 0, 1);
     used
 }

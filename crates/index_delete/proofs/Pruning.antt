@@ -9,10 +9,10 @@ use Rattle.kits.specs.Kits.{mostPlace}
 use Rattle.nodes.specs.Nodes.{at, tagWord, parent, child, depth, tag, size}
 use Rattle.nodes.proofs.Rows.{climb, live-inside}
 use Rattle.index_links.specs.Links.{unlink, oneLess, recount}
-use Rattle.index_links.specs.Inner.{Unlinks, CountsOut}
-use Rattle.index_links.proofs.Alike.{alike-live, alike-depth}
-use Rattle.index_links.proofs.Retag.{retag-shape, retag-to, retag-depth}
-use Rattle.index_links.proofs.Recount.{recount-alike, recount-shape}
+use Rattle.index_links.specs.Inner.{Unlinks, CanMove, moved}
+use Rattle.index_links.proofs.Alike.{alike-then, alike-live, alike-depth}
+use Rattle.index_links.proofs.Retag.{retag-alike, retag-shape}
+use Rattle.index_links.proofs.Recount.{recount-alike, recount-shape, one-off}
 use Rattle.index_delete.specs.Strike.{prune, strikeAt}
 use Rattle.index_delete.specs.Inner.{Prunes}
 use Rattle.index_delete.proofs.Trimmed.{prune-goes, prune-tag, prune-child, prune-root, up-prunes, up-depth, off}
@@ -70,25 +70,24 @@ module _ {N₀ N : List ℕ} {i₀ i : ℕ} (P : Pruning N₀ i₀ N i) where
 
 -- before that one kit is counted out, and the tag is cleared
 module _ {parts : ℕ} {N : List ℕ} {i : ℕ} (P : Prunes parts N i) where
-  pub counted-prunes : Prunes parts (recount oneLess N (depth N i) i) i
-  counted-prunes =
-      record { shape = recount-shape (P .shape) oneLess i (P .live); live = alike-live (recount-alike oneLess N (depth N i) i) i (P .live) }
+  pub counted-prunes : (f : ℕ → ℕ) → Prunes parts (recount f N (depth N i) i) i
+  counted-prunes f = record { shape = recount-shape (P .shape) f i (P .live); live = alike-live (recount-alike f N (depth N i) i) i (P .live) }
 
   pub cleared-prunes : Prunes parts (set N (at i tagWord) 0) i
-  cleared-prunes = record { shape = retag-shape N i 0 (P .shape) (P .live); live = λ g. retag-to N i 0 i (P .live g) }
+  cleared-prunes = record { shape = retag-shape N i 0 (P .shape) (P .live); live = alike-live (retag-alike N i 0) i (P .live) }
 
 pub struck-depth : (N : List ℕ) (i : ℕ) → depth (set (recount oneLess N (depth N i) i) (at i tagWord) 0) i ≡ depth N i
-struck-depth N i = retag-depth (recount oneLess N (depth N i) i) i 0 i ∙ alike-depth (recount-alike oneLess N (depth N i) i) i
+struck-depth N i = alike-depth (alike-then (recount-alike oneLess N (depth N i) i) (retag-alike (recount oneLess N (depth N i) i) i 0)) i
 
-pub strike-words : (N C L M : List ℕ) (i : ℕ) → C ≡ recount oneLess N (depth N i) i → L ≡ set C (at i tagWord) 0 →
+pub strike-words : (N C L M : List ℕ) (i : ℕ) → C ≡ recount (moved 1 0) N (depth N i) i → L ≡ set C (at i tagWord) 0 →
     M ≡ prune L (depth L i) i → M ≡ strikeAt N i
 unfolding strikeAt
 strike-words N C L M i c l m =
-    let e : L ≡ set (recount oneLess N (depth N i) i) (at i tagWord) 0 = l ∙ ap (λ (X : List ℕ). set X (at i tagWord) 0) c in
+    let e : L ≡ set (recount oneLess N (depth N i) i) (at i tagWord) 0 = l ∙ ap (λ (X : List ℕ). set X (at i tagWord) 0) (c ∙ one-off N (depth N i) i) in
     rw e at m ∙ ap (λ (k : ℕ). prune (set (recount oneLess N (depth N i) i) (at i tagWord) 0) k i) (struck-depth N i)
 
-pub counted-asked : {N C : List ℕ} {i : ℕ} → CountsOut N i → C ≡ recount oneLess N (depth N i) i → Prunes mostPlace C i
-counted-asked K e = rw e (counted-prunes (record { shape = K .shape; live = K .live }))
+pub counted-asked : {N C : List ℕ} {i : ℕ} → CanMove N i 1 0 → C ≡ recount (moved 1 0) N (depth N i) i → Prunes mostPlace C i
+counted-asked K e = rw e (counted-prunes (record { shape = K .shape; live = K .live }) (moved 1 0))
 
 pub cleared-asked : {N L : List ℕ} {i : ℕ} → Prunes mostPlace N i → L ≡ set N (at i tagWord) 0 → Prunes mostPlace L i
 cleared-asked P e = rw e (cleared-prunes P)

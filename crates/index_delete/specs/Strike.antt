@@ -14,7 +14,8 @@ unfoldable pub prune : List ℕ → ℕ → ℕ → List ℕ
 prune N zero i = N
 prune N (suc k) i = cond (isZero (tag N i) && isZero (child N i)) (prune (unlink N i) k (parent N i)) N
 
--- [6.5, 6.7] the kit that ends at node i struck out: one less there, and at every node above, the root too; a node at depth k has k nodes but the root from it upwards
+-- [6.5, 6.7] the kit that ends at node i struck out: one less there, and at every node above, the root too; a node at depth k has k nodes but
+-- the root from it upwards
 unfoldable pub strikeAt : List ℕ → ℕ → List ℕ
 strikeAt N i = prune (set (recount oneLess N (depth N i) i) (at i tagWord) 0) (depth N i) i
 

@@ -3,10 +3,10 @@
 ghost use mathlib.Core.Path.{_≡_};
 ghost use Rattle.kits.specs.Kits.{mostPlace};
 ghost use Rattle.nodes.specs.Nodes.{depth};
-ghost use Rattle.index_links.specs.Inner.{CountsOut};
+ghost use Rattle.index_links.specs.Inner.{CanMove};
 ghost use Rattle.index_delete.specs.Strike.{prune as pruned, strikeAt};
 ghost use Rattle.index_delete.specs.Inner.{Prunes};
-use index_links::count_out;
+use index_links::move_tallies;
 use index_links::put_tag;
 use index_links::unlink;
 use nodes::child_at;
@@ -34,10 +34,10 @@ fn prune(nodes: &mut [u16], from: usize)
 
 // Strikes out the kit that ends at node i.
 pub fn strike_at(nodes: &mut [u16], i: usize)
-    requires { ⌜ CountsOut (now nodes) i ⌝ }
+    requires { ⌜ CanMove (now nodes) i 1 0 ⌝ }
     ensures { λ _. ⌜ now (nodes .exit) ≡ strikeAt (now (nodes .entry)) i ⌝ }
 {
-    count_out(nodes, i);
+    move_tallies(nodes, i, 1, 0);
     put_tag(nodes, i, 0);
     prune(nodes, i);
 }

@@ -16,7 +16,9 @@ use Rattle.nodes.proofs.Rows.{climb, used-pos, live-inside, row-length, row-ste
 use Rattle.nodes.proofs.Chain.{ended}
 use Rattle.index_links.specs.Links.{childWith, link}
 use Rattle.index_links.proofs.Chains.{with-found, with-row, with-lone}
-use Rattle.index_links.proofs.Splice.{Pending, Spliced, Room, Placed, placed-shape, placed-tags, placed-tallies, placed-pending, new-used, new-row, rows-same, used-to, same-size}
+use Rattle.index_links.proofs.Splice.{Pending, Spliced, Room, Placed, placed-shape, placed-tags, placed-tallies, placed-pending}
+use Rattle.index_links.proofs.Splice.{new-used, new-row, rows-same, used-to, same-size}
+use Rattle.index_links.proofs.Alike.{Alike, alike-label, alike-used, alike-live, alike-row}
 use Rattle.index_links.proofs.Linked.{placed}
 use Rattle.index_insert.specs.Enter.{lowestFree, enterBelow, lacks}
 use Rattle.index_insert.specs.Inner.{Enters}
@@ -189,22 +191,23 @@ tag-set : {parts : ℕ} {N : List ℕ} (p t : ℕ) → Shape parts N → Live N 
 tag-set {N = N} p t S l =
     let M : List ℕ = set N (at p tagWord) t in
     let h : p < size N = live-inside (climb S) p l in
+    let A : Alike N M = T.retag-alike N p t in
     record {
-      same-length = T.retag-length N p t;
+      same-length = A .lengths;
       shape = T.retag-shape N p t S l;
       end = p;
-      live = λ g. T.retag-to N p t p (l g);
-      is = T.retag-row N p t p;
+      live = alike-live A p l;
+      is = alike-row A p;
       has = T.retag-here N p t h;
       tags = T.retag-other N p t;
       tallies = T.retag-tally N p t;
-      used = T.retag-to N p t;
-      rows = λ i _. T.retag-row N p t i;
+      used = alike-used A;
+      rows = λ i _. alike-row A i;
       leaf = λ g P i u c. ⊎-elim
           (λ (e : i ≡ p). omega (arith, ap (tag M) e, T.retag-here N p t h))
           (λ (n : i ≢ p). T.retag-pending N p t P i u n c)
           (same-or i p);
-      taken = omega (arith, ap length (as-many S (T.retag-shape N p t S l) (omega (arith, T.retag-length N p t)) (T.retag-label N p t)));
+      taken = omega (arith, ap length (as-many S (T.retag-shape N p t S l) (omega (arith, A .lengths)) (alike-label A)));
     }
 
 -- through a child that is there

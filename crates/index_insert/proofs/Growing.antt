@@ -18,7 +18,8 @@ use Rattle.nodes.proofs.Rows.{climb, live-inside}
 use Rattle.index_links.specs.Links.{childWith, nodeOf, link}
 use Rattle.index_links.specs.Inner.{LinksTo}
 use Rattle.index_links.proofs.Splice.{Placed, same-size, new-used, live-to, rows-same}
-use Rattle.index_links.proofs.Retag.{retag-shape, retag-to, retag-row}
+use Rattle.index_links.proofs.Alike.{Alike, alike-live, alike-row}
+use Rattle.index_links.proofs.Retag.{retag-alike, retag-shape}
 use Rattle.index_insert.specs.Enter.{lowestFree, enterBelow}
 use Rattle.index_insert.specs.Inner.{Enters, Grows}
 use Rattle.index_insert.proofs.Free.{first-skip, used-not-free, free-alike}
@@ -114,10 +115,9 @@ module _ {N₀ us N M : List ℕ} {p₀ d₀ t p a d : ℕ} (G : Growing N₀ us
   grow-node =
       let E : Enters mostPlace N p (drop d us) = G .grows .enters in
       let S : Shape mostPlace K = retag-shape N p t (E .shape) (E .live) in
-      let w : rowOf K p ≡ rowOf K p₀ ++ drop d₀ us = retag-row N p t p ∙ whole ∙ ap (λ (x : List ℕ). x ++ drop d₀ us)
-      (sym (retag-row N p t p₀)) in
-      sym (ap (λ (X : List ℕ). nodeOf X p₀ (drop d₀ us)) e ∙ node-of-row S (drop d₀ us) p₀ p (λ g. retag-to N p t p₀ (G .home g))
-      (λ g. retag-to N p t p (E .live g)) w)
+      let A : Alike N K = retag-alike N p t in
+      let w : rowOf K p ≡ rowOf K p₀ ++ drop d₀ us = alike-row A p ∙ whole ∙ ap (λ (x : List ℕ). x ++ drop d₀ us) (sym (alike-row A p₀)) in
+      sym (ap (λ (X : List ℕ). nodeOf X p₀ (drop d₀ us)) e ∙ node-of-row S (drop d₀ us) p₀ p (alike-live A p₀ (G .home)) (alike-live A p (E .live)) w)
 
 pub grow-home : {N₀ us N : List ℕ} {p₀ d₀ t p a d : ℕ} → Growing N₀ us p₀ d₀ t N p a d → p < size N
 grow-home {p = p} G = live-inside (climb (G .grows .enters .shape)) p (G .grows .enters .live)

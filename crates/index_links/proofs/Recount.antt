@@ -18,7 +18,8 @@ use Rattle.nodes.specs.Held.{held}
 use Rattle.nodes.proofs.Lists.{same-or}
 use Rattle.nodes.proofs.Sorted.{Every, also, Rising, ahead, none, every-mem, every-map, anyb-eqb, eqb-anyb}
 use Rattle.nodes.proofs.Rows.{climb, parent-live, live-inside, up-ind}
-use Rattle.index_links.specs.Links.{recount}
+use Rattle.index_links.specs.Links.{recount, oneMore, oneLess}
+use Rattle.index_links.specs.Inner.{moved}
 use Rattle.index_links.proofs.Alike.{Alike, alike-then, alike-upward, alike-shape, alike-free, alike-held}
 
 -- one number set
@@ -40,7 +41,18 @@ module _ (N : List ℕ) (i x : ℕ) where
       let n : j ≢ i = λ (e : j ≡ i). omega (arith, l (omega arith) .named, ap (label N) e) in
       (renumber-tag j, renumber-tally j n))
 
--- all of a path
+-- all of a path, and by a change that comes to the same
+pub recount-same : (f g : ℕ → ℕ) → ((n : ℕ) → f n ≡ g n) → (N : List ℕ) (k i : ℕ) → recount f N k i ≡ recount g N k i
+unfolding recount
+recount-same f g e N zero i = rw (e (tally N i))
+recount-same f g e N (suc k) i = rw (e (tally N i)) (recount-same f g e (set N (at i tallyWord) (g (tally N i))) k (parent N i))
+
+pub one-on : (N : List ℕ) (k i : ℕ) → recount (moved 0 1) N k i ≡ recount oneMore N k i
+one-on = recount-same (moved 0 1) oneMore (λ n. omega arith)
+
+pub one-off : (N : List ℕ) (k i : ℕ) → recount (moved 1 0) N k i ≡ recount oneLess N k i
+one-off = recount-same (moved 1 0) oneLess (λ n. omega arith)
+
 pub recount-alike : (f : ℕ → ℕ) (N : List ℕ) (k i : ℕ) → Alike N (recount f N k i)
 unfolding recount
 recount-alike f N zero i = renumber-alike N i (f (tally N i))

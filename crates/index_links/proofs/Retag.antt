@@ -4,12 +4,12 @@ use mathlib.Core.Logic.{_≢_}
 use mathlib.Core.List.{List}
 use Prim.Native.Nat.{ℕ, _<_}
 use native.Mathlib.Omega.{arith}
-use lib.ListN.{length, set, length-set}
+use lib.ListN.{set, length-set}
 use lib.Seq.{getD-set-same, getD-set-other}
-use Rattle.nodes.specs.Nodes.{at, tagWord, tallyWord, child, label, depth, tag, tally, size, rowOf}
-use Rattle.nodes.specs.Inner.{Used, Live, Shape}
+use Rattle.nodes.specs.Nodes.{at, tagWord, tallyWord, label, tag, tally, size}
+use Rattle.nodes.specs.Inner.{Live, Shape}
 use Rattle.index_links.proofs.Splice.{Pending}
-use Rattle.index_links.proofs.Alike.{Alike, alike-back, alike-child, alike-label, alike-depth, alike-used, alike-row, alike-shape}
+use Rattle.index_links.proofs.Alike.{Alike, alike-back, alike-child, alike-used, alike-shape}
 
 module _ (N : List ℕ) (p t : ℕ) where
   abbrev M : List ℕ
@@ -21,18 +21,6 @@ module _ (N : List ℕ) (p t : ℕ) where
     words = λ i w h. getD-set-other N (at p tagWord) (at i w) t 0 (omega arith);
   }
 
-  pub retag-length : length M ≡ length N
-  retag-length = retag-alike .lengths
-
-  pub retag-child : (i : ℕ) → child M i ≡ child N i
-  retag-child = alike-child retag-alike
-
-  pub retag-label : (i : ℕ) → label M i ≡ label N i
-  retag-label = alike-label retag-alike
-
-  pub retag-depth : (i : ℕ) → depth M i ≡ depth N i
-  retag-depth = alike-depth retag-alike
-
   pub retag-tally : (i : ℕ) → tally M i ≡ tally N i
   retag-tally i = getD-set-other N (at p tagWord) (at i tallyWord) t 0 (omega arith)
 
@@ -42,18 +30,9 @@ module _ (N : List ℕ) (p t : ℕ) where
   pub retag-other : (i : ℕ) → i ≢ p → tag M i ≡ tag N i
   retag-other i n = getD-set-other N (at p tagWord) (at i tagWord) t 0 (omega arith)
 
-  pub retag-to : (i : ℕ) → Used N i → Used M i
-  retag-to = alike-used retag-alike
-
-  pub retag-from : (i : ℕ) → Used M i → Used N i
-  retag-from = alike-used (alike-back retag-alike)
-
-  pub retag-row : (i : ℕ) → rowOf M i ≡ rowOf N i
-  retag-row = alike-row retag-alike
-
   -- which other nodes have no child, and their tags, stay
   pub retag-pending : Pending N p → Pending M p
-  retag-pending P i u n c = omega (arith, retag-other i n, P i (retag-from i u) n (sym (retag-child i) ∙ c))
+  retag-pending P i u n c = omega (arith, retag-other i n, P i (alike-used (alike-back retag-alike) i u) n (sym (alike-child retag-alike i) ∙ c))
 
   -- the node is the root or used: a free node has no tag
   pub retag-shape : {parts : ℕ} → Shape parts N → Live N p → Shape parts M

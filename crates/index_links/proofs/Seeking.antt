@@ -15,7 +15,8 @@ use Rattle.nodes.proofs.Rows.{climb, live-inside}
 use Rattle.nodes.proofs.Chain.{siblings, left, left-less}
 use Rattle.index_links.specs.Links.{hasLabel, childWith, lastBelow, linkTo}
 use Rattle.index_links.specs.Inner.{Chained, Reads, LinksBehind, Unlinks, wordBehind}
-use Rattle.index_links.proofs.Chains.{Step, chained-step, chained-end, chained-above, the-children, child-lives, with-here, with-on, with-none, below-on, below-none}
+use Rattle.index_links.proofs.Chains.{Step, chained-step, chained-end, chained-above, the-children, child-lives}
+use Rattle.index_links.proofs.Chains.{with-here, with-on, with-none, below-on, below-none}
 
 -- what is known of a link that is followed
 pub record Follows (N : List ℕ) (c : ℕ) : Type 0 where

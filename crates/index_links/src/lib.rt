@@ -6,8 +6,8 @@ ghost use lib.ListN.{length, set};
 ghost use Rattle.ground.specs.Limits.{twoLimit};
 ghost use Rattle.ground.specs.Laid.{laid};
 ghost use Rattle.nodes.specs.Nodes.{wordsPerNode, at, parentWord, tagWord, tallyWord, depth, size, children};
-ghost use Rattle.index_links.specs.Links.{childWith, lastBelow, linkTo, link as linked, unlink as unlinked, oneMore, oneLess, recount};
-ghost use Rattle.index_links.specs.Inner.{Reads, LinksTo, LinksBehind, CountsIn, CountsOut, Unlinks, wordBehind};
+ghost use Rattle.index_links.specs.Links.{childWith, lastBelow, linkTo, link as linked, unlink as unlinked, recount};
+ghost use Rattle.index_links.specs.Inner.{Reads, LinksTo, LinksBehind, CanMove, Unlinks, moved, wordBehind};
 use nodes::CHILD;
 use nodes::DEPTH;
 use nodes::LABEL;
@@ -159,34 +159,18 @@ fn put_tally(nodes: &mut [u16], i: usize, n: u16)
     set_word(nodes, i, TALLY, n);
 }
 
-// One more kit at node i: there, and at every node above it, the root too.
-pub fn count_in(nodes: &mut [u16], i: usize)
-    requires { ⌜ CountsIn (now nodes) i ⌝ }
-    ensures { λ _. ⌜ now (nodes .exit) ≡ recount oneMore (now (nodes .entry)) (depth (now (nodes .entry)) i) i ⌝ }
+// So many kits off and so many on at node i: there, and at every node above it, the root too.
+pub fn move_tallies(nodes: &mut [u16], i: usize, off: u16, on: u16)
+    requires { ⌜ CanMove (now nodes) i off on ⌝ }
+    ensures { λ _. ⌜ now (nodes .exit) ≡ recount (moved off on) (now (nodes .entry)) (depth (now (nodes .entry)) i) i ⌝ }
 {
     let mut at = i;
     while at != 0 {
         let q = parent_at(nodes, at);
         let n = tally_at(nodes, at);
-        put_tally(nodes, at, n + 1);
+        put_tally(nodes, at, n - off + on);
         at = q;
     }
     let n = tally_at(nodes, 0);
-    put_tally(nodes, 0, n + 1);
-}
-
-// One kit less at node i: there, and at every node above it, the root too.
-pub fn count_out(nodes: &mut [u16], i: usize)
-    requires { ⌜ CountsOut (now nodes) i ⌝ }
-    ensures { λ _. ⌜ now (nodes .exit) ≡ recount oneLess (now (nodes .entry)) (depth (now (nodes .entry)) i) i ⌝ }
-{
-    let mut at = i;
-    while at != 0 {
-        let q = parent_at(nodes, at);
-        let n = tally_at(nodes, at);
-        put_tally(nodes, at, n - 1);
-        at = q;
-    }
-    let n = tally_at(nodes, 0);
-    put_tally(nodes, 0, n - 1);
+    put_tally(nodes, 0, n - off + on);
 }

@@ -18,7 +18,8 @@ use Rattle.nodes.specs.Nodes.{mostNodes, tallyWord, at, parent, child, n
 use Rattle.nodes.specs.Nodes.{upward, isUnder, tagsUnder}
 use Rattle.nodes.specs.Inner.{Used, Live, Shape, Sound, total, walk}
 use Rattle.nodes.specs.Held.{Kit, comesBefore, putKit, inOrder, dropKit, beginsWith, countBeginning, kitAt, held}
-use Rattle.nodes.proofs.Sorted.{keep-short, keep-all, no-members, keep-same, keep-append, keep-mem, mem-keep, mem-from, rising-keep, rising-weaken, rising-from, same-length}
+use Rattle.nodes.proofs.Sorted.{keep-short, keep-all, no-members, keep-same, keep-append, keep-mem, mem-keep, mem-from}
+use Rattle.nodes.proofs.Sorted.{rising-keep, rising-weaken, rising-from, same-length}
 use Rattle.nodes.proofs.Lists.{never, zero-or, same-or}
 use Rattle.nodes.proofs.Rows.{climb, used-pos, live-inside, up-ind, row-root, row-step, row-length, row-good, Ancestor, ancestor}
 use Rattle.nodes.proofs.Walk.{child-live, walk-none, walk-some, ind}

@@ -24,7 +24,7 @@ use writing::write_answer;
 use writing::write_broken;
 
 // How many elements of each block there is room for: R and M, N, L, I, P and Q, O, K, D.
-const REGISTER_ROOM: usize = 8200;
+const REGISTER_ROOM: usize = 128064;
 
 const NODES_ROOM: usize = 28700;
 

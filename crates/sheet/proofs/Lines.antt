@@ -1,5 +1,5 @@
 -- A kit record: how many bytes it takes, and the lines set down behind the tag and the line count.
-use mathlib.Core.Path.{_≡_, refl, ap}
+use mathlib.Core.Path.{_≡_, refl, ap, _∙_}
 use mathlib.Core.Bool.{Bool, true, false, cond}
 use mathlib.Core.List.{List, [], _∷_, _++_}
 use Prim.Native.Nat.{ℕ, suc, _+_, _*_, _/_, _≤_}
@@ -13,8 +13,9 @@ use Rattle.kits.specs.Inner.{GoodRow}
 use Rattle.kits.proofs.Good.{good-lines}
 use Rattle.kits.proofs.Units.{row-list-good}
 use Rattle.sheet.specs.Bytes.{inBytes, two}
-use Rattle.sheet.specs.Sheet.{placeBytes, lineBytes, lineWords, countAt, linesAt, lineItems, recordItem}
-use Rattle.sheet.specs.Inner.{kitOf, recordBytes}
+use Rattle.sheet.specs.Sheet.{lineBytes, lineWords, countAt, linesAt, lineItems, recordItem}
+use Rattle.sheet.specs.Inner.{Width, kitOf, recordBytes}
+use Rattle.sheet.proofs.Widths.{lines-over}
 use Rattle.sheet.proofs.Written.{items-length}
 
 few-from : (p q : ℕ) (us : List ℕ) → length (linesFrom p q us) ≤ 2 + 2 * length us
@@ -33,30 +34,31 @@ unfolding listOf
 lines-few [] = omega arith
 lines-few (x ∷ us) = omega (arith, few-from x 1 us)
 
-pub record-size : (r : List ℕ) (t : ℕ) → GoodRow mostPlace r →
-    length (recordItem placeBytes (kitOf r t)) ≡ linesAt + length (listOf r) / lineWords * lineBytes placeBytes
-unfolding recordItem inBytes
-record-size r t g = omega (arith, items-length (good-lines mostPlace (listOf r) (row-list-good mostPlace r g)) placeBytes)
+module _ (w : ℕ) (r : List ℕ) (t : ℕ) (g : GoodRow mostPlace r) where
+  pub record-size : length (recordItem w (kitOf r t)) ≡ linesAt + length (listOf r) / lineWords * lineBytes w
+  unfolding recordItem inBytes
+  record-size = omega (arith, items-length (good-lines mostPlace (listOf r) (row-list-good mostPlace r g)) w)
 
--- the record of a row is its tag and the bytes of its lines
-pub record-bytes : (r : List ℕ) (t : ℕ) → GoodRow mostPlace r → recordBytes t (lineItems placeBytes (listOf r)) ≡ recordItem placeBytes (kitOf r t)
-unfolding recordBytes recordItem
-record-bytes r t g =
-    let ls = lineItems placeBytes (listOf r) in
-    let e : length ls / lineBytes placeBytes ≡ length (listOf r) / lineWords = omega
-    (arith, items-length (good-lines mostPlace (listOf r) (row-list-good mostPlace r g)) placeBytes) in
-    ap (λ (n : ℕ). two t ++ (n ∷ ls)) e
+  -- the record of a row is its tag and the bytes of its lines
+  pub record-bytes : Width w → recordBytes w t (lineItems w (listOf r)) ≡ recordItem w (kitOf r t)
+  unfolding recordBytes recordItem
+  record-bytes h =
+      let ls = lineItems w (listOf r) in
+      let n = length (listOf r) / lineWords in
+      let long : length ls ≡ n * lineBytes w = items-length (good-lines mostPlace (listOf r) (row-list-good mostPlace r g)) w in
+      let e : length ls / lineBytes w ≡ n = ap (λ (m : ℕ). m / lineBytes w) long ∙ lines-over h n in
+      ap (λ (n : ℕ). two t ++ (n ∷ ls)) e
 
-pub record-long : (t : ℕ) (ls : List ℕ) → length (recordBytes t ls) ≡ linesAt + length ls
+pub record-long : (w t : ℕ) (ls : List ℕ) → length (recordBytes w t ls) ≡ linesAt + length ls
 unfolding recordBytes inBytes
-record-long t ls = omega arith
+record-long w t ls = omega arith
 
 -- the tag and the line count are set down, and the lines are to come
-pub kit-going : {l m : List ℕ} {r : ℕ} (ls : List ℕ) (t n : ℕ) → Put l 0 (two t) r m → n ≡ length ls / lineBytes placeBytes →
-    length (recordBytes t ls) ≤ length l → Rest l 0 (recordBytes t ls) (set m countAt n) linesAt ls
+pub kit-going : {l m : List ℕ} {r : ℕ} (w : ℕ) (ls : List ℕ) (t n : ℕ) → Put l 0 (two t) r m → n ≡ length ls / lineBytes w →
+    length (recordBytes w t ls) ≤ length l → Rest l 0 (recordBytes w t ls) (set m countAt n) linesAt ls
 unfolding recordBytes inBytes
-kit-going {l} {m} ls t n p e h =
-    let all = recordBytes t ls in
+kit-going {l} {m} w ls t n p e h =
+    let all = recordBytes w t ls in
     let t = rest-put (rest-start l 0 all (omega arith)) refl (put-at p) in
     rest-byte t refl e (put-one m countAt n)
   where

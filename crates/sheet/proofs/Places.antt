@@ -1,23 +1,23 @@
 -- What stands in a sheet from a place on: two bytes, numbers, and kit records with their lists.
 use mathlib.Core.Path.{_≡_, refl, ap, sym, _∙_}
 use mathlib.Core.Bool.{Bool, true, false, cond}
-use mathlib.Core.List.{List, [], _∷_, _++_}
+use mathlib.Core.List.{List, [], _∷_, _++_, append-assoc}
 use Prim.Native.Nat.{ℕ, zero, suc, _+_, _-_, _*_, _≤_, _<_}
-use native.Mathlib.Nat.{add-zero, sub-zero}
+use native.Mathlib.Nat.{add-zero, sub-zero, suc-mul}
 use native.Mathlib.Numerals.{add-one}
 use native.Mathlib.Omega.{arith}
-use lib.ListN.{length, take, drop, getD, set, replicate, length-drop, length-take, length-replicate}
+use lib.ListN.{length, take, drop, getD, set, replicate, length-drop, length-append, length-replicate}
 use lib.Dec.{leb}
-use lib.Seq.{take-at, take-suc, take-all, length-take-le, drop-drop, getD-drop, getD-take, take-take, drop-cons}
+use lib.Seq.{take-at, take-nil, drop-drop, getD-drop, getD-take, take-take, drop-cons}
 use borrow.Author.Tests.{le-leb, lt-leb, leb-true}
 use Rattle.ground.specs.Limits.{byteLimit}
 use Rattle.ground.specs.Laid.{laid}
-use Rattle.ground.proofs.Laid.{laid-front, laid-nil, laid-set}
+use Rattle.ground.proofs.Laid.{laid-front, laid-set}
 use Rattle.repeats.specs.Inner.{numberHere, nextPlace}
 use Rattle.kits.specs.Kits.{units}
 use Rattle.sheet.specs.Bytes.{valueFrom, fromBytes, twoBytes}
-use Rattle.sheet.specs.Sheet.{placeBytes, lineBytes, countAt, linesAt}
-use Rattle.sheet.specs.Inner.{recordWords, numbersAt, endAt, recordAt, recordEnd, linesSize, listAt, WholeAt}
+use Rattle.sheet.specs.Sheet.{lineBytes, lineWords, countAt, linesAt}
+use Rattle.sheet.specs.Inner.{recordWords, numbersAt, endAt, recordAt, recordEnd, lineCount, linesSize, listAt, WholeAt}
 use Rattle.sheet.specs.Reading.{numberSize, recordSize, linesRead, listIn, kitIn}
 
 ------------------------------------------------------------------------
@@ -65,111 +65,116 @@ module _ (s : List ℕ) (at : ℕ) where
       drop-first n l = let e : 1 + n ≡ suc n = omega arith in rw e (go l)
         where
           go : (l : List ℕ) → drop 1 (take (suc n) l) ≡ take n (drop 1 l)
-          go [] = take-none n
-            where
-              take-none : (n : ℕ) → [] ≡ take {A = ℕ} n []
-              take-none zero = refl
-              take-none (suc n) = refl
+          go [] = sym (take-nil n)
           go (x ∷ l) = refl
 
 ------------------------------------------------------------------------
 -- Kit records
 
--- lines whose places take one byte are the bytes themselves
-lines-are : (n : ℕ) (bs : List ℕ) → n * lineBytes placeBytes ≤ length bs → linesRead placeBytes n bs ≡ take (n * lineBytes placeBytes) bs
-unfolding linesRead valueFrom
-lines-are zero bs h = refl
-lines-are (suc n) [] h = absurd (omega arith)
-lines-are (suc n) (x ∷ []) h = absurd (omega arith)
-lines-are (suc n) (x ∷ y ∷ bs) h =
-    let e : suc n * 2 ≡ suc (suc (n * 2)) = omega arith in
-    let z : 0 * 256 + x ≡ x = omega arith in
-    rw (e, z, lines-are n bs (omega arith))
-
 drop-taken : (n m : ℕ) (l : List ℕ) → drop n (take (n + m) l) ≡ take m (drop n l)
 drop-taken zero m l = let e : zero + m ≡ m = omega arith in rw e
-drop-taken (suc n) m [] = let e : suc n + m ≡ suc (n + m) = omega arith in rw e (sym (take-none m))
-  where
-    take-none : (m : ℕ) → take {A = ℕ} m [] ≡ []
-    take-none zero = refl
-    take-none (suc m) = refl
+drop-taken (suc n) m [] = let e : suc n + m ≡ suc (n + m) = omega arith in rw e (sym (take-nil m))
 drop-taken (suc n) m (x ∷ l) = let e : suc n + m ≡ suc (n + m) = omega arith in rw e (drop-taken n m l)
 
+-- The lines of a record, whose places take w bytes
+module _ (w : ℕ) where
+  pub lines-count : (n : ℕ) (bs : List ℕ) → length (linesRead w n bs) ≡ n * lineWords
+  unfolding linesRead
+  lines-count zero bs = omega arith
+  lines-count (suc n) bs = omega (arith, lines-count n (drop (lineBytes w) bs))
+
+  -- they are read from their own bytes alone
+  lines-taken : (n : ℕ) (bs : List ℕ) → linesRead w n (take (n * lineBytes w) bs) ≡ linesRead w n bs
+  unfolding linesRead
+  lines-taken zero bs = refl
+  lines-taken (suc n) bs =
+      let m = n * lineBytes w in
+      let e : suc n * lineBytes w ≡ lineBytes w + m = suc-mul n (lineBytes w) ∙ (omega arith) in
+      let t : take w (take (lineBytes w + m) bs) ≡ take w bs = take-take w (lineBytes w + m) bs (omega arith) in
+      let q : getD (take (lineBytes w + m) bs) w 0 ≡ getD bs w 0 = getD-take (lineBytes w + m) bs w 0 (omega arith) in
+      rw (e, t, q, drop-taken (lineBytes w) m bs, lines-taken n (drop (lineBytes w) bs))
+
+  -- and one line more stands behind those before it
+  pub lines-next : (n : ℕ) (bs : List ℕ) → linesRead w (suc n) bs ≡ linesRead w n bs
+      ++ (fromBytes (take w (drop (n * lineBytes w) bs)) ∷ getD bs (n * lineBytes w + w) 0 ∷ [])
+  unfolding linesRead
+  lines-next zero bs =
+      let e : 0 * lineBytes w ≡ 0 = omega arith in
+      let z : 0 + w ≡ w = omega arith in
+      rw (e, z) refl
+  lines-next (suc n) bs =
+      let m = n * lineBytes w in
+      let e : suc n * lineBytes w ≡ lineBytes w + m = suc-mul n (lineBytes w) ∙ (omega arith) in
+      let q : getD (drop (lineBytes w) bs) (m + w) 0 ≡ getD bs (lineBytes w + m + w) 0 = getD-drop (lineBytes w) bs (m + w) 0 ∙ ap
+      (λ (i : ℕ). getD bs i 0) (omega arith) in
+      ap (λ (l : List ℕ). fromBytes (take w bs) ∷ getD bs w 0 ∷ l) (lines-next n (drop (lineBytes w) bs) ∙ rw (e, q, drop-drop) refl)
+
 -- The record at a place
-module _ (s : List ℕ) (at : ℕ) where
-  pub size-at : recordSize placeBytes (drop at s) ≡ linesAt + linesSize s at
+module _ (w : ℕ) (s : List ℕ) (at : ℕ) where
+  pub size-at : recordSize w (drop at s) ≡ linesAt + linesSize w s at
   unfolding recordSize
   size-at = rw (getD-drop at s countAt 0)
 
-  pub end-cut : at ≤ length s → length s - at < linesAt + linesSize s at → at ≡ recordEnd s at
+  pub end-cut : at ≤ length s → length s - at < linesAt + linesSize w s at → at ≡ recordEnd w s at
   unfolding recordEnd
-  end-cut h k = rw (lt-leb (recordSize placeBytes (drop at s)) (length (drop at s)) (omega (arith, size-at, length-drop at s)))
+  end-cut h k = rw (lt-leb (recordSize w (drop at s)) (length (drop at s)) (omega (arith, size-at, length-drop at s)))
 
-  pub end-whole : WholeAt s at → at + (linesAt + linesSize s at) ≡ recordEnd s at
+  pub end-whole : WholeAt w s at → at + (linesAt + linesSize w s at) ≡ recordEnd w s at
   unfolding recordEnd
   end-whole h =
-      rw (le-leb (recordSize placeBytes (drop at s)) (length (drop at s)) (omega (arith, size-at, length-drop at s)))
+      rw (le-leb (recordSize w (drop at s)) (length (drop at s)) (omega (arith, size-at, length-drop at s)))
       (omega (arith, size-at))
 
-  module _ (r : ℕ) (e : r ≡ recordEnd s at) (inside : at ≤ length s) where
-    pub end-moved : (r ≡ at → ⊥) → WholeAt s at × (r ≡ at + recordSize placeBytes (drop at s))
+  module _ (r : ℕ) (e : r ≡ recordEnd w s at) (inside : at ≤ length s) where
+    pub end-moved : (r ≡ at → ⊥) → WholeAt w s at × (r ≡ at + recordSize w (drop at s))
     unfolding recordEnd
-    end-moved f = go (leb (recordSize placeBytes (drop at s)) (length (drop at s))) refl e
+    end-moved f = go (leb (recordSize w (drop at s)) (length (drop at s))) refl e
       where
-        go : (x : Bool) → leb (recordSize placeBytes (drop at s)) (length (drop at s)) ≡ x →
-            r ≡ cond x (at + recordSize placeBytes (drop at s)) at → WholeAt s at × (r ≡ at + recordSize placeBytes (drop at s))
-        go true l g = (omega (arith, leb-true (recordSize placeBytes (drop at s)) (length (drop at s)) l, size-at, length-drop at s), g)
+        go : (x : Bool) → leb (recordSize w (drop at s)) (length (drop at s)) ≡ x →
+            r ≡ cond x (at + recordSize w (drop at s)) at → WholeAt w s at × (r ≡ at + recordSize w (drop at s))
+        go true l g = (omega (arith, leb-true (recordSize w (drop at s)) (length (drop at s)) l, size-at, length-drop at s), g)
         go false l g = absurd (f g)
 
-  module _ (h : WholeAt s at) where
-    pub list-is : listIn placeBytes (recordAt s at) ≡ listAt s at
-    unfolding listIn
-    list-is =
-        let n = getD s (at + countAt) 0 in
-        let c : getD (recordAt s at) countAt 0 ≡ n = getD-take (recordSize placeBytes (drop at s)) (drop at s) countAt 0
-        (omega (arith, size-at)) ∙ getD-drop at s countAt 0 in
-        let d : drop linesAt (recordAt s at) ≡ listAt s at = ap (λ (m : ℕ). drop linesAt (take m (drop at s))) size-at
-        ∙ drop-taken linesAt (linesSize s at) (drop at s) ∙ rw (drop-drop) refl in
-        let l : linesSize s at ≤ length (listAt s at) = omega
-        (arith, length-take (linesSize s at) (drop (at + linesAt) s), length-drop (at + linesAt) s) in
-        rw (c, d) (lines-are n (listAt s at) l ∙ take-take (linesSize s at) (linesSize s at) (drop (at + linesAt) s) (omega arith))
+  pub list-is : listIn w (recordAt w s at) ≡ listAt w s at
+  unfolding listIn
+  list-is =
+      let n = lineCount s at in
+      let c : getD (recordAt w s at) countAt 0 ≡ n = getD-take (recordSize w (drop at s)) (drop at s) countAt 0
+      (omega (arith, size-at)) ∙ getD-drop at s countAt 0 in
+      let d : drop linesAt (recordAt w s at) ≡ take (linesSize w s at) (drop (at + linesAt) s) = ap
+      (λ (m : ℕ). drop linesAt (take m (drop at s))) size-at ∙ drop-taken linesAt (linesSize w s at) (drop at s) ∙ rw (drop-drop) refl in
+      rw (c, d) (lines-taken w n (drop (at + linesAt) s))
 
-    pub tag-is : kitIn placeBytes (recordAt s at) .tag ≡ fromBytes (take twoBytes (drop at s))
-    unfolding kitIn
-    tag-is = ap fromBytes (take-take twoBytes (recordSize placeBytes (drop at s)) (drop at s) (omega (arith, size-at)))
+  pub tag-is : kitIn w (recordAt w s at) .tag ≡ fromBytes (take twoBytes (drop at s))
+  unfolding kitIn
+  tag-is = ap fromBytes (take-take twoBytes (recordSize w (drop at s)) (drop at s) (omega (arith, size-at)))
 
-    pub row-is : kitIn placeBytes (recordAt s at) .row ≡ units (listAt s at)
-    unfolding kitIn
-    row-is = ap units list-is
+  pub row-is : kitIn w (recordAt w s at) .row ≡ units (listAt w s at)
+  unfolding kitIn
+  row-is = ap units list-is
 
--- the words of a list, read from the bytes of a record: so far they are the first i, with zeros behind
+  pub list-long : length (listAt w s at) ≡ lineCount s at * lineWords
+  list-long = lines-count w (lineCount s at) (drop (at + linesAt) s)
+
+-- The words of a list, with zeros behind
+abbrev pub wordsOf : List ℕ → List ℕ
+wordsOf xs = laid (replicate recordWords 0) 0 xs
+
 module _ (xs : List ℕ) where
-  pub words-part : length xs ≤ recordWords → (n : ℕ) → length xs ≡ n → take (n - 0) (drop 0 (laid (replicate recordWords 0) 0 xs)) ≡ xs
+  pub words-part : length xs ≤ recordWords → (n : ℕ) → length xs ≡ n → take (n - 0) (drop 0 (wordsOf xs)) ≡ xs
   words-part few n e =
       rw (sub-zero, laid-front (replicate recordWords 0) xs (simp length-replicate few)) (take-at xs (drop (length xs) (replicate recordWords 0)) n e)
 
-  pub words-start : replicate recordWords 0 ≡ laid (replicate recordWords 0) 0 (take 0 xs)
-  words-start = sym (laid-nil (replicate recordWords 0) 0)
+  -- two words more
+  pub words-on : (i x y : ℕ) → i ≡ length xs → set (set (wordsOf xs) i x) (i + 1) y ≡ wordsOf (xs ++ (x ∷ y ∷ []))
+  words-on i x y e =
+      let zs = replicate {A = ℕ} recordWords 0 in
+      let z : i ≡ 0 + length xs = omega arith in
+      let a : set (wordsOf xs) i x ≡ wordsOf (xs ++ (x ∷ [])) = ap (λ (j : ℕ). set (wordsOf xs) j x) z ∙ laid-set zs 0 xs x in
+      let j : i + 1 ≡ 0 + length (xs ++ (x ∷ [])) = omega (arith, length-append xs (x ∷ [])) in
+      rw (a, j) (laid-set zs 0 (xs ++ (x ∷ [])) y ∙ ap wordsOf (append-assoc xs (x ∷ []) (y ∷ [])))
 
-  pub words-on : (i : ℕ) (l : List ℕ) (x : ℕ) → i < length xs → l ≡ laid (replicate recordWords 0) 0 (take i xs) → x ≡ getD xs i 0 →
-      set l i x ≡ laid (replicate recordWords 0) 0 (take (i + 1) xs)
-  words-on i l x h e f =
-      let d : take (i + 1) xs ≡ take i xs ++ (x ∷ []) = rw (add-one i, take-suc xs i 0 h, ← f) refl in
-      let z : i ≡ 0 + length (take i xs) = omega (arith, length-take-le i xs (omega arith)) in
-      rw (e, d) (rw (← z) at (laid-set (replicate recordWords 0) 0 (take i xs) x))
-
-  pub words-end : (i : ℕ) {l : List ℕ} → length xs ≤ i → l ≡ laid (replicate recordWords 0) 0 (take i xs) → l ≡ laid (replicate recordWords 0) 0 xs
-  words-end i h e = e ∙ ap (laid (replicate recordWords 0) 0) (take-all i xs h)
-
--- the list of a whole record
-module _ (s : List ℕ) (at : ℕ) (h : WholeAt s at) where
-  pub list-long : length (listAt s at) ≡ linesSize s at
-  list-long = length-take-le (linesSize s at) (drop (at + linesAt) s) (omega (arith, length-drop (at + linesAt) s))
-
-  pub list-word : (i : ℕ) → i < linesSize s at → getD (listAt s at) i 0 ≡ getD s (at + linesAt + i) 0
-  list-word i k = getD-take (linesSize s at) (drop (at + linesAt) s) i 0 k ∙ getD-drop (at + linesAt) s i 0
-
-  -- of the words that were read, as many as it has are lent
-  pub lent-list : {n : ℕ} {l : List ℕ} → n ≡ linesSize s at → n ≤ recordWords → l ≡ laid (replicate recordWords 0) 0 (listAt s at) →
-      take (n - 0) (drop 0 l) ≡ listAt s at
-  lent-list {n} e k f = rw f (words-part (listAt s at) (omega (arith, list-long)) n (omega (arith, list-long)))
+-- of the words that were read, as many as it has are lent
+pub lent-list : (w : ℕ) (s : List ℕ) (at : ℕ) {n : ℕ} {l : List ℕ} → n ≡ lineCount s at * lineWords → n ≤ recordWords → l ≡ wordsOf (listAt w s at) →
+    take (n - 0) (drop 0 l) ≡ listAt w s at
+lent-list w s at {n} e k f = rw f (words-part (listAt w s at) (omega (arith, list-long w s at)) n (omega (arith, list-long w s at)))

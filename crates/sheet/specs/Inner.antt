@@ -2,7 +2,7 @@
 -- Contents that fit the format, the format's sizes, and what stands in a sheet from a place on.
 use mathlib.Core.Bool.{Bool, true, _&&_, cond}
 use mathlib.Core.List.{List, [], _∷_, _++_}
-use Prim.Native.Nat.{ℕ, zero, suc, _+_, _*_, _/_, _≤_}
+use Prim.Native.Nat.{ℕ, zero, suc, _+_, _*_, _/_, _≤_, _<_}
 use lib.ListN.{length, take, drop, getD}
 use lib.Dec.{leb, ltb, eqb}
 use Rattle.ground.specs.Lists.{allb, every, distinct, eqList}
@@ -12,8 +12,8 @@ use Rattle.register.specs.Number.{goodNumber}
 use Rattle.kits.specs.Kits.{goodList, listOf, before, mostUnits}
 use Rattle.nodes.specs.Held.{Kit, tagsOf}
 use Rattle.sheet.specs.Bytes.{two}
-use Rattle.sheet.specs.Sheet.{Contents, placeBytes, lineBytes, countAt, linesAt}
-use Rattle.sheet.specs.Reading.{recordSize}
+use Rattle.sheet.specs.Sheet.{Contents, lineBytes, countAt, linesAt}
+use Rattle.sheet.specs.Reading.{recordSize, linesRead}
 
 -- behind the mark stand version and part count, and behind these the numbers begin
 abbrev pub versionAt : ℕ
@@ -47,6 +47,18 @@ fitsSheet c = every
 ------------------------------------------------------------------------
 -- Sizes
 
+-- a place takes one byte or two
+abbrev pub widest : ℕ
+widest = 2
+
+pub record Width (w : ℕ) : Type 0 where
+  pub some-byte : 0 < w
+  pub few-bytes : w ≤ widest
+
+-- 255 lines take so many bytes
+abbrev pub mostLines : ℕ
+mostLines = 765
+
 -- 255 lines have so many words
 abbrev pub recordWords : ℕ
 recordWords = 510
@@ -56,14 +68,14 @@ abbrev pub mostItem : ℕ
 mostItem = 25
 
 abbrev pub mostRecord : ℕ
-mostRecord = 131
+mostRecord = 195
 
 abbrev pub kitOf : List ℕ → ℕ → Kit
 kitOf r t = record { row = r; tag = t }
 
 -- a tag, a line count and the bytes of the lines
-unfoldable pub recordBytes : ℕ → List ℕ → List ℕ
-recordBytes t ls = two t ++ (length ls / lineBytes placeBytes ∷ ls)
+unfoldable pub recordBytes : ℕ → ℕ → List ℕ → List ℕ
+recordBytes w t ls = two t ++ (length ls / lineBytes w ∷ ls)
 
 ------------------------------------------------------------------------
 -- Numbers in a sheet
@@ -80,19 +92,22 @@ endAt s j (suc k) = endAt s (nextPlace s j) k
 ------------------------------------------------------------------------
 -- Kit records in a sheet
 
--- the record at a place: its bytes, and where it ends; where it is cut short, where it starts
-abbrev pub recordAt : List ℕ → ℕ → List ℕ
-recordAt s at = take (recordSize placeBytes (drop at s)) (drop at s)
+-- the record at a place, where places take w bytes: its bytes, and where it ends; where it is cut short, where it starts
+abbrev pub recordAt : ℕ → List ℕ → ℕ → List ℕ
+recordAt w s at = take (recordSize w (drop at s)) (drop at s)
 
-unfoldable pub recordEnd : List ℕ → ℕ → ℕ
-recordEnd s at = cond (leb (recordSize placeBytes (drop at s)) (length (drop at s))) (at + recordSize placeBytes (drop at s)) at
+unfoldable pub recordEnd : ℕ → List ℕ → ℕ → ℕ
+recordEnd w s at = cond (leb (recordSize w (drop at s)) (length (drop at s))) (at + recordSize w (drop at s)) at
 
--- the bytes of its lines, which are the words of its list
-abbrev pub linesSize : List ℕ → ℕ → ℕ
-linesSize s at = getD s (at + countAt) 0 * lineBytes placeBytes
+-- how many lines it has, and the bytes of these; its list
+abbrev pub lineCount : List ℕ → ℕ → ℕ
+lineCount s at = getD s (at + countAt) 0
 
-abbrev pub listAt : List ℕ → ℕ → List ℕ
-listAt s at = take (linesSize s at) (drop (at + linesAt) s)
+abbrev pub linesSize : ℕ → List ℕ → ℕ → ℕ
+linesSize w s at = lineCount s at * lineBytes w
 
-abbrev pub WholeAt : List ℕ → ℕ → Type 0
-WholeAt s at = at + linesAt + linesSize s at ≤ length s
+abbrev pub listAt : ℕ → List ℕ → ℕ → List ℕ
+listAt w s at = linesRead w (lineCount s at) (drop (at + linesAt) s)
+
+abbrev pub WholeAt : ℕ → List ℕ → ℕ → Type 0
+WholeAt w s at = at + linesAt + linesSize w s at ≤ length s

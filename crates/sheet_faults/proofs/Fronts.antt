@@ -5,7 +5,6 @@ use mathlib.Core.List.{List, [], _∷_, _++_, map}
 use Prim.Native.Nat.{ℕ, zero, suc, _≤_, _<_}
 use native.Mathlib.Omega.{arith}
 use lib.ListN.{length, take, drop}
-use borrow.Author.Tests.{le-leb}
 use Rattle.ground.specs.Limits.{mostParts, twoLimit}
 use Rattle.ground.specs.Lists.{anyb, eqList}
 use Rattle.ground.proofs.Laws.{eqList-refl}
@@ -14,7 +13,8 @@ use Rattle.sheet.specs.Bytes.{fromBytes, two, twoBytes}
 use Rattle.sheet.specs.Sheet.{mark, markBytes, version, numberItem}
 use Rattle.sheet.specs.Reading.{Reading, _>>=_, give, one, bytes, anyTwo, isVersion, goodPartCount, numberSize, newNumber, numbers, Front, front}
 use Rattle.sheet.proofs.Numbers.{two-back, two-length}
-use Rattle.sheet.proofs.Written.{NewNumbers, no-more, another, number-new, version-good, any-good}
+use Rattle.sheet.proofs.Widths.{version-good, count-good}
+use Rattle.sheet.proofs.Written.{NewNumbers, no-more, another, number-new, any-good}
 use Rattle.sheet_faults.specs.Faults.{frontItems, announcing}
 use Rattle.sheet_faults.proofs.Cuts.{GoesOver, over-one, over-none, over-behind, over-given}
 
@@ -50,10 +50,6 @@ over-fixed w good b e g = over-one (bytes w) good b (λ rest. sym e) (λ n h. om
 over-two : (good : List ℕ → Bool) (n : ℕ) → good (two n) ≡ true → GoesOver (one (bytes twoBytes) good) (two n ∷ []) (two n)
 over-two good n g = over-fixed twoBytes good (two n) (two-length n) g
 
-pub few-good : (n : ℕ) → n ≤ mostParts → goodPartCount (two n) ≡ true
-unfolding goodPartCount
-few-good n h = let e : fromBytes (two n) ≡ n = two-back n (omega arith) in rw e (le-leb n mostParts h)
-
 ------------------------------------------------------------------------
 -- The front
 
@@ -65,7 +61,7 @@ abbrev pub afterCount : List ℕ → Reading Front
 afterCount p = _>>=_ (numbers (fromBytes p) []) afterNumbers
 
 abbrev pub afterVersion : List ℕ → Reading Front
-afterVersion v = _>>=_ (one (bytes twoBytes) goodPartCount) afterCount
+afterVersion v = _>>=_ (one (bytes twoBytes) (goodPartCount (fromBytes v))) afterCount
 
 abbrev pub afterMark : List ℕ → Reading Front
 afterMark m = _>>=_ (one (bytes twoBytes) isVersion) afterVersion
@@ -82,6 +78,8 @@ module _ {ps : List (List ℕ)} {n : ℕ} (new : NewNumbers [] ps) (few : length
   pub over-front : GoesOver front (frontItems ps n) (announcing ps n)
   unfolding front frontItems
   over-front =
+      let n = length ps in
+      let v = version n in
       over-behind afterMark _ (over-fixed markBytes (eqList mark) mark refl (eqList-refl mark))
-      (over-behind afterVersion _ (over-two isVersion version version-good)
-      (over-behind afterCount _ (over-two goodPartCount (length ps) (few-good (length ps) few)) over-parts))
+      (over-behind afterVersion _ (over-two isVersion v (version-good n))
+      (over-behind afterCount _ (over-two (goodPartCount (fromBytes (two v))) n (count-good n few)) over-parts))

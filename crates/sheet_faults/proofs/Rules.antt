@@ -10,13 +10,15 @@ use Rattle.ground.specs.Limits.{mostParts}
 use Rattle.ground.specs.Lists.{concat, eqList}
 use Rattle.ground.proofs.Laws.{eqList-refl}
 use Rattle.sheet.specs.Bytes.{inBytes, fromBytes, two, twoBytes}
-use Rattle.sheet.specs.Sheet.{Contents, mark, markBytes, version, placeBytes, numberItem}
+use Rattle.sheet.specs.Sheet.{Contents, mark, markBytes, version, numberItem}
 use Rattle.sheet.specs.Reading.{item, fault, onward, one, bytes, isVersion, goodPartCount, numberSize, newNumber, numbers, recordSize}
 use Rattle.sheet.specs.Reading.{newKit, stop, unless, records, front, decode, isFault, said}
 use Rattle.sheet.proofs.Numbers.{two-back, two-length}
-use Rattle.sheet.proofs.Written.{one-good, NewNumbers, no-more, another, number-new, version-good}
-use Rattle.sheet_faults.specs.Faults.{partItems, announcedItems, numberAtFault, recordAtFault, FaultAtOpening, FaultAtNumber, FaultAtRecord}
-use Rattle.sheet_faults.proofs.Fronts.{afterNumbers, afterVersion, afterMark, number-as-long, few-good}
+use Rattle.sheet.proofs.Widths.{version-back, version-good, count-good}
+use Rattle.sheet.proofs.Written.{one-good, NewNumbers, no-more, another, number-new}
+use Rattle.sheet_faults.specs.Faults.{partItems, widthOf, announcedItems, numberAtFault, recordAtFault}
+use Rattle.sheet_faults.specs.Faults.{FaultAtOpening, FaultAtNumber, FaultAtRecord}
+use Rattle.sheet_faults.proofs.Fronts.{afterNumbers, afterVersion, afterMark, number-as-long}
 use Rattle.sheet_faults.proofs.Faults.{decode-fault, accepted-items}
 
 -- wherever it stands
@@ -41,27 +43,32 @@ mark-first : (bs : List ℕ) → front (mark ++ bs) 0 ≡ afterMark mark bs 3
 unfolding front onward bytes
 mark-first bs = rw (one-good (bytes markBytes) (eqList mark) mark bs 0 refl (eqList-refl mark))
 
-version-second : (bs : List ℕ) → front (mark ++ (two version ++ bs)) 0 ≡ afterVersion (two version) bs 5
+version-second : (p : ℕ) (bs : List ℕ) → front (mark ++ (two (version p) ++ bs)) 0 ≡ afterVersion (two (version p)) bs 5
 unfolding onward bytes
-version-second bs =
-    mark-first (two version ++ bs)
-    ∙ (rw (one-good (bytes twoBytes) isVersion (two version) bs 3 (sym (two-length version)) version-good, two-length version))
+version-second p bs =
+    let v = version p in
+    mark-first (two v ++ bs)
+    ∙ (rw (one-good (bytes twoBytes) isVersion (two v) bs 3 (sym (two-length v)) (version-good p), two-length v))
 
-count-third : (n : ℕ) → n ≤ mostParts → (bs : List ℕ) → front (mark ++ (two version ++ (two n ++ bs))) 0 ≡ onward (numbers n [] bs 7) afterNumbers
+count-third : (n : ℕ) → n ≤ mostParts → (bs : List ℕ) → front (mark ++ (two (version n) ++ (two n ++ bs))) 0 ≡ onward (numbers n [] bs 7) afterNumbers
 unfolding onward bytes
 count-third n h bs =
     let b : fromBytes (two n) ≡ n = two-back n (omega arith) in
-    version-second (two n ++ bs)
-    ∙ (rw (one-good (bytes twoBytes) goodPartCount (two n) bs 5 (sym (two-length n)) (few-good n h), two-length n, b))
+    let good = goodPartCount (fromBytes (two (version n))) in
+    version-second n (two n ++ bs)
+    ∙ (rw (one-good (bytes twoBytes) good (two n) bs 5 (sym (two-length n)) (count-good n h), two-length n, b))
 
 pub fault-at-opening : FaultAtOpening
 unfolding front onward
-fault-at-opening bs = (
-  λ e. decode-front bs 0 (rw (one-at-fault (bytes markBytes) (eqList mark) bs 0 e)),
-  λ e. decode-front (mark ++ bs) 3 (mark-first bs ∙ (rw (one-at-fault (bytes twoBytes) isVersion bs 3 e))),
-  λ e. decode-front (mark ++ (two version ++ bs)) 5 (version-second bs ∙ (rw (one-at-fault (bytes twoBytes) goodPartCount bs 5 e)))
-      ∙ ap fault (omega (arith, two-length version)),
-)
+fault-at-opening p bs =
+    let v = version p in
+    let good = goodPartCount (fromBytes (two v)) in (
+      λ e. decode-front bs 0 (rw (one-at-fault (bytes markBytes) (eqList mark) bs 0 e)),
+      λ e. decode-front (mark ++ bs) 3 (mark-first bs ∙ (rw (one-at-fault (bytes twoBytes) isVersion bs 3 e))),
+      λ e. let g : isFault (one (bytes twoBytes) good bs 0) ≡ true = rw (version-back p) e in
+          decode-front (mark ++ (two v ++ bs)) 5 (version-second p bs ∙ (rw (one-at-fault (bytes twoBytes) good bs 5 g)))
+          ∙ ap fault (omega (arith, two-length v)),
+    )
 
 ------------------------------------------------------------------------
 -- Numbers
@@ -88,8 +95,8 @@ parts-fault ps new m h bs b =
     let N : ℕ = length ps + suc m in
     let C : List ℕ = concat (map numberItem ps) in
     let f : numbers N [] (C ++ bs) 7 ≡ fault (7 + length C) = numbers-fault new m bs 7 b in
-    let a : front (mark ++ (two version ++ (two N ++ (C ++ bs)))) 0 ≡ fault (7 + length C) = count-third N h (C ++ bs) ∙ (rw f) in
-    decode-front (mark ++ (two version ++ (two N ++ (C ++ bs)))) (7 + length C) a ∙ ap fault (omega arith)
+    let a : front (mark ++ (two (version N) ++ (two N ++ (C ++ bs)))) 0 ≡ fault (7 + length C) = count-third N h (C ++ bs) ∙ (rw f) in
+    decode-front (mark ++ (two (version N) ++ (two N ++ (C ++ bs)))) (7 + length C) a ∙ ap fault (omega arith)
 
 pub fault-at-number : FaultAtNumber
 fault-at-number s n bs h e k l b =
@@ -110,5 +117,5 @@ fault-at-record s n bs h e k l b =
     let m : ℕ = n - suc (length (c .kits)) in
     let z : length (c .kits) + suc m ≡ n = omega arith in
     let o : ℕ = length (concat (announcedItems c (length (c .kits) + suc m))) in
-    let f = one-at-fault (recordSize placeBytes) (newKit placeBytes (length (c .parts)) (reverse (c .kits))) bs o b in
+    let f = one-at-fault (recordSize (widthOf c)) (newKit (widthOf c) (length (c .parts)) (reverse (c .kits))) bs o b in
     rw z at (decode-fault c (a .fit) (suc m) (rw z l) bs (stop (suc m) bs o) (rw f) (λ m r. omega arith))

@@ -18,7 +18,7 @@ use Rattle.sheet.specs.Calls.{sheetRefusals}
 
 -- "Items are mark, version, part count, each number with its length": these numbers, of a sheet that announces n
 abbrev pub partItems : ℕ → List (List ℕ) → List (List ℕ)
-partItems n ps = mark ∷ two version ∷ two n ∷ map numberItem ps
+partItems n ps = mark ∷ two (version n) ∷ two n ∷ map numberItem ps
 
 -- "kit count": n kits announced
 unfoldable pub frontItems : List (List ℕ) → ℕ → List (List ℕ)
@@ -28,9 +28,13 @@ frontItems ps n = partItems (length ps) ps ++ (two n ∷ [])
 abbrev pub kitItems : ℕ → List Kit → List (List ℕ)
 kitItems w ks = map (recordItem w) ks
 
+-- how many bytes a place takes in the records of a sheet that says c
+abbrev pub widthOf : Contents → ℕ
+widthOf c = placeBytes (length (c .parts))
+
 -- of a sheet that says c, and announces n kits
 abbrev pub announcedItems : Contents → ℕ → List (List ℕ)
-announcedItems c n = frontItems (c .parts) n ++ kitItems placeBytes (c .kits)
+announcedItems c n = frontItems (c .parts) n ++ kitItems (widthOf c) (c .kits)
 
 abbrev pub itemsOf : Contents → List (List ℕ)
 itemsOf c = announcedItems c (length (c .kits))
@@ -64,7 +68,7 @@ unfoldable pub numberAtFault : List (List ℕ) → List ℕ → Bool
 numberAtFault ps bs = isFault (one numberSize (newNumber (reverse ps)) bs 0)
 
 unfoldable pub recordAtFault : Contents → List ℕ → Bool
-recordAtFault c bs = isFault (one (recordSize placeBytes) (newKit placeBytes (length (c .parts)) (reverse (c .kits))) bs 0)
+recordAtFault c bs = isFault (one (recordSize (widthOf c)) (newKit (widthOf c) (length (c .parts)) (reverse (c .kits))) bs 0)
 
 -- A sheet is its items. Proof: proofs/Faults, `items-make-sheet`
 abbrev pub ItemsMakeSheet : Type 0
@@ -80,13 +84,14 @@ FaultAtCut =
     (s : List ℕ) (n : ℕ) → Bytes s → isFault (decode s) ≡ false → n < length s →
     decode (take n s) ≡ fault (startOfCut (itemsOf (said (decode s))) n)
 
--- [12.14] Mark, version or part count at fault, behind what is right. Proof: proofs/Rules, `fault-at-opening`
+-- [12.14] Mark, version or part count at fault, behind what is right: in the version of any number p. Proof: proofs/Rules, `fault-at-opening`
 abbrev pub FaultAtOpening : Type 0
 FaultAtOpening =
-    (bs : List ℕ) →
+    (p : ℕ) (bs : List ℕ) →
     (isFault (one (bytes markBytes) (eqList mark) bs 0) ≡ true → decode bs ≡ fault 0)
     × (isFault (one (bytes twoBytes) isVersion bs 0) ≡ true → decode (mark ++ bs) ≡ fault (length mark))
-    × (isFault (one (bytes twoBytes) goodPartCount bs 0) ≡ true → decode (mark ++ (two version ++ bs)) ≡ fault (length (mark ++ two version)))
+    × (isFault (one (bytes twoBytes) (goodPartCount (version p)) bs 0) ≡ true →
+    decode (mark ++ (two (version p) ++ bs)) ≡ fault (length (mark ++ two (version p))))
 
 -- [12.14] The items of an accepted sheet to its last number, more parts announced, and behind them a number at fault. Proof: proofs/Rules, `fault-at-number`
 abbrev pub FaultAtNumber : Type 0
@@ -111,8 +116,8 @@ KeptAtCut =
     let c = said (decode s) in
     let f = announcing (c .parts) (length (c .kits)) in
     let o = length (concat (frontItems (c .parts) (length (c .kits)))) in
-    let bs = take n (concat (kitItems placeBytes (c .kits))) in
-    (front (take (o + n) s) 0 ≡ item f bs o) × (runOf f bs o ≡ runToCut placeBytes (c .kits) n bs o)
+    let bs = take n (concat (kitItems (widthOf c) (c .kits))) in
+    (front (take (o + n) s) 0 ≡ item f bs o) × (runOf f bs o ≡ runToCut (widthOf c) (c .kits) n bs o)
 
 -- The same as answers of reading, whatever room the tables have. Proofs: proofs/Faults, `behind-refused`, `cut-refused`
 abbrev pub BehindRefused : Type 0

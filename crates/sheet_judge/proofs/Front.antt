@@ -1,19 +1,21 @@
 -- Laws of reading one item at a place, and of the head of a sheet.
 use mathlib.Core.Path.{_≡_, refl, _∙_}
-use mathlib.Core.Bool.{Bool, true, false, _&&_, cond, and-false}
-use mathlib.Core.List.{List, []}
+use mathlib.Core.Bool.{Bool, true, false, _&&_, cond, and-false, and-true}
+use mathlib.Core.List.{List, [], _∷_}
 use Prim.Native.Nat.{ℕ, _+_, _-_, _≤_, _<_}
 use native.Mathlib.Omega.{arith}
 use lib.ListN.{length, take, drop, length-drop}
-use lib.Dec.{leb}
+use lib.Dec.{leb, eqb}
 use lib.Seq.{drop-drop}
-use borrow.Author.Tests.{le-leb, lt-leb, eq-eqb, ne-eqb, leb-true, leb-false}
+use borrow.Author.Tests.{le-leb, lt-leb, leb-true, leb-false}
 use Rattle.ground.specs.Limits.{mostParts}
-use Rattle.ground.specs.Lists.{eqList}
+use Rattle.ground.specs.Lists.{anyb, every, eqList}
+use Rattle.ground.proofs.Laws.{and-left}
 use Rattle.sheet.specs.Bytes.{fromBytes, twoBytes}
 use Rattle.sheet.specs.Sheet.{mark, version, markBytes}
 use Rattle.sheet.specs.Inner.{headBytes, versionAt, partsAt}
-use Rattle.sheet.specs.Reading.{Item, item, fault, Reading, onward, one, bytes, anyTwo, isVersion, goodPartCount, numbers, Front, front, runOf, whole, decode}
+use Rattle.sheet.specs.Reading.{Item, item, fault, Reading, onward, one, bytes, anyTwo, versions, isVersion, goodPartCount, numbers}
+use Rattle.sheet.specs.Reading.{Front, front, runOf, whole, decode}
 use Rattle.sheet_judge.specs.Inner.{behindNumbers, Headed, placeOf}
 
 -- One item
@@ -125,38 +127,54 @@ module _ (s : List ℕ) where
     pub no-version : length s < partsAt → decode s ≡ fault versionAt
     no-version k = version-fault (two-short isVersion s versionAt h (omega arith))
 
-    pub bad-version : (fromBytes (take twoBytes (drop versionAt s)) ≡ version → ⊥) → decode s ≡ fault versionAt
-    unfolding isVersion
-    bad-version f = version-fault (two-bad isVersion s versionAt (ne-eqb (fromBytes (take twoBytes (drop versionAt s))) version f))
-
-    module _ (k : partsAt ≤ length s) (v : fromBytes (take twoBytes (drop versionAt s)) ≡ version) where
-      version-item : one (bytes twoBytes) isVersion (drop versionAt s) versionAt ≡ item (take twoBytes (drop versionAt s)) (drop partsAt s) partsAt
+    -- the version v, as it was read
+    module _ (v : ℕ) (read : v ≡ fromBytes (take twoBytes (drop versionAt s))) where
+      known : {x : Bool} → anyb (eqb v) versions ≡ x → isVersion (take twoBytes (drop versionAt s)) ≡ x
       unfolding isVersion
-      version-item = two-ok isVersion s versionAt k (eq-eqb (fromBytes (take twoBytes (drop versionAt s))) version v)
+      known e = rw (← read) e
 
-      count-fault : one (bytes twoBytes) goodPartCount (drop partsAt s) partsAt ≡ fault partsAt → decode s ≡ fault partsAt
-      unfolding decode front onward
-      count-fault e = let f = mark-item h m in let g = version-item in rw (f, g, e)
+      pub bad-version : anyb (eqb v) versions ≡ false → decode s ≡ fault versionAt
+      bad-version f = version-fault (two-bad isVersion s versionAt (known f))
 
-      pub no-count : length s < headBytes → decode s ≡ fault partsAt
-      no-count l = count-fault (two-short goodPartCount s partsAt k (omega arith))
+      module _ (k : partsAt ≤ length s) (g : anyb (eqb v) versions ≡ true) where
+        version-item : one (bytes twoBytes) isVersion (drop versionAt s) versionAt ≡ item (take twoBytes (drop versionAt s)) (drop partsAt s) partsAt
+        version-item = two-ok isVersion s versionAt k (known g)
 
-      pub bad-count : mostParts < fromBytes (take twoBytes (drop partsAt s)) → decode s ≡ fault partsAt
-      unfolding goodPartCount
-      bad-count l = count-fault (two-bad goodPartCount s partsAt (lt-leb (fromBytes (take twoBytes (drop partsAt s))) mostParts l))
-
-      module _ (n : ℕ) (l : headBytes ≤ length s) (e : n ≡ fromBytes (take twoBytes (drop partsAt s))) (b : n ≤ mostParts) where
-        count-item : one (bytes twoBytes) goodPartCount (drop partsAt s) partsAt ≡ item (take twoBytes (drop partsAt s)) (drop headBytes s) headBytes
-        unfolding goodPartCount
-        count-item = two-ok goodPartCount s partsAt l (le-leb (fromBytes (take twoBytes (drop partsAt s))) mostParts (omega arith))
-
-        numbers-next : decode s ≡ onward (numbers n [] (drop headBytes s) headBytes) behindNumbers
-        unfolding decode front
-        numbers-next =
+        count-fault : one (bytes twoBytes) (goodPartCount v) (drop partsAt s) partsAt ≡ fault partsAt → decode s ≡ fault partsAt
+        unfolding decode front onward
+        count-fault e =
             let f = mark-item h m in
-            let g = version-item in
-            let i = count-item in
-            rw (f, onward-item, g, onward-item, i, onward-item, ← e) (behind-all (numbers n [] (drop headBytes s) headBytes))
+            let i = version-item in
+            rw (f, i, ← read, e)
 
-        pub headed : Headed s n
-        headed = record { inside = l; few = b; goes = numbers-next }
+        pub no-count : length s < headBytes → decode s ≡ fault partsAt
+        no-count l = count-fault (two-short (goodPartCount v) s partsAt k (omega arith))
+
+        -- the part count n, as it was read
+        module _ (n : ℕ) (count : n ≡ fromBytes (take twoBytes (drop partsAt s))) where
+          counted : {x : Bool} → (leb n mostParts && eqb v (version n)) ≡ x → goodPartCount v (take twoBytes (drop partsAt s)) ≡ x
+          unfolding goodPartCount every
+          counted e = rw (← count, and-true) e
+
+          pub bad-count : (leb n mostParts && eqb v (version n)) ≡ false → decode s ≡ fault partsAt
+          bad-count f = count-fault (two-bad (goodPartCount v) s partsAt (counted f))
+
+          module _ (l : headBytes ≤ length s) (b : (leb n mostParts && eqb v (version n)) ≡ true) where
+            count-item : one (bytes twoBytes) (goodPartCount v) (drop partsAt s) partsAt
+                ≡ item (take twoBytes (drop partsAt s)) (drop headBytes s) headBytes
+            count-item = two-ok (goodPartCount v) s partsAt l (counted b)
+
+            numbers-next : decode s ≡ onward (numbers n [] (drop headBytes s) headBytes) behindNumbers
+            unfolding decode front
+            numbers-next =
+                let f = mark-item h m in
+                let i = version-item in
+                let j = count-item in
+                rw (f, onward-item, i, onward-item, ← read, j, onward-item, ← count) (behind-all (numbers n [] (drop headBytes s) headBytes))
+
+            pub headed : (r : ℕ) → r ≡ n → Headed s r
+            headed r e = rw e (record {
+              inside = l;
+              few = leb-true n mostParts (and-left (leb n mostParts) (eqb v (version n)) b);
+              goes = numbers-next;
+            })

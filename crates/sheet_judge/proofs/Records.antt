@@ -20,9 +20,8 @@ use Rattle.kits.proofs.Checks.{checked-good}
 use Rattle.kits.proofs.Order.{compared-exactly}
 use Rattle.nodes.specs.Held.{Kit}
 use Rattle.sheet.specs.Bytes.{fromBytes, twoBytes}
-use Rattle.sheet.specs.Sheet.{placeBytes}
 use Rattle.sheet.specs.Reading.{fault, one, recordSize, follows, newKit}
-use Rattle.sheet.specs.Inner.{recordAt, recordEnd, listAt, WholeAt}
+use Rattle.sheet.specs.Inner.{recordAt, recordEnd, listAt}
 use Rattle.sheet.proofs.Places.{size-at, list-is, tag-is, row-is}
 use Rattle.sheet_judge.specs.Inner.{goodLines, Tags, newTag, Latest}
 use Rattle.sheet_judge.proofs.Front.{one-short}
@@ -35,32 +34,31 @@ regroup true true true false e = refl
 regroup true true true true e = and-true e
 
 -- The record at a place
-module _ (s : List ℕ) (at : ℕ) where
-  module _ (r : ℕ) (e : r ≡ recordEnd s at) (inside : at ≤ length s) where
-    pub end-stays : (good : List ℕ → Bool) → r ≡ at → one (recordSize placeBytes) good (drop at s) at ≡ fault at
+module _ (w : ℕ) (s : List ℕ) (at : ℕ) where
+  module _ (r : ℕ) (e : r ≡ recordEnd w s at) (inside : at ≤ length s) where
+    pub end-stays : (good : List ℕ → Bool) → r ≡ at → one (recordSize w) good (drop at s) at ≡ fault at
     unfolding recordEnd
-    end-stays good f = go (leb (recordSize placeBytes (drop at s)) (length (drop at s))) refl e
+    end-stays good f = go (leb (recordSize w (drop at s)) (length (drop at s))) refl e
       where
-        go : (x : Bool) → leb (recordSize placeBytes (drop at s)) (length (drop at s)) ≡ x →
-            r ≡ cond x (at + recordSize placeBytes (drop at s)) at → one (recordSize placeBytes) good (drop at s) at ≡ fault at
-        go true l g = absurd (omega (arith, size-at s at))
+        go : (x : Bool) → leb (recordSize w (drop at s)) (length (drop at s)) ≡ x →
+            r ≡ cond x (at + recordSize w (drop at s)) at → one (recordSize w) good (drop at s) at ≡ fault at
+        go true l g = absurd (omega (arith, size-at w s at))
         go false l g =
-            one-short (recordSize placeBytes) good (drop at s) at (leb-false (recordSize placeBytes (drop at s)) (length (drop at s)) l)
+            one-short (recordSize w) good (drop at s) at (leb-false (recordSize w (drop at s)) (length (drop at s)) l)
 
-  module _ (h : WholeAt s at) where
-    module _ (parts : ℕ) (seen : List Kit) where
-      abbrev T : ℕ
-      T = fromBytes (take twoBytes (drop at s))
+  module _ (parts : ℕ) (seen : List Kit) where
+    abbrev T : ℕ
+    T = fromBytes (take twoBytes (drop at s))
 
-      abbrev U : List ℕ
-      U = units (listAt s at)
+    abbrev U : List ℕ
+    U = units (listAt w s at)
 
-      pub new-is : (marks : List ℕ) (t : ℕ) → Tags marks seen → t ≡ T → t < twoLimit →
-          newKit placeBytes parts seen (recordAt s at) ≡ ((newTag marks t && goodLines parts (listAt s at)) && follows U seen)
-      unfolding newKit every newTag goodLines
-      new-is marks t k e small =
-          rw (tag-is s at h, row-is s at h, list-is s at h, ← e, k t small)
-          (regroup (not (isZero t)) (isZero (getD marks t 0)) (goodList parts (listAt s at)) (leb (length U) mostUnits) (follows U seen))
+    pub new-is : (marks : List ℕ) (t : ℕ) → Tags marks seen → t ≡ T → t < twoLimit →
+        newKit w parts seen (recordAt w s at) ≡ ((newTag marks t && goodLines parts (listAt w s at)) && follows U seen)
+    unfolding newKit every newTag goodLines
+    new-is marks t k e small =
+        rw (tag-is w s at, row-is w s at, list-is w s at, ← e, k t small)
+        (regroup (not (isZero t)) (isZero (getD marks t 0)) (goodList parts (listAt w s at)) (leb (length U) mostUnits) (follows U seen))
 
 -- what a record is judged by, one after the other
 module _ (marks : List ℕ) (t : ℕ) (lines : Bool) where

@@ -47,27 +47,27 @@ unfolding prepend
 prepend-stop [] m bs o = refl
 prepend-stop (x ∷ ks) m bs o = ap (also x) (prepend-stop ks m bs o)
 
-records-none : (parts : ℕ) (seen : List Kit) (bs : List ℕ) (o : ℕ) → records placeBytes 0 parts seen bs o ≡ stop 0 bs o
+records-none : (w parts : ℕ) (seen : List Kit) (bs : List ℕ) (o : ℕ) → records w 0 parts seen bs o ≡ stop 0 bs o
 unfolding records
-records-none parts seen bs o = refl
+records-none w parts seen bs o = refl
 
-records-faulty : (m parts : ℕ) (seen : List Kit) (bs : List ℕ) (o : ℕ) →
-    one (recordSize placeBytes) (newKit placeBytes parts seen) bs o ≡ fault o →
-    records placeBytes (suc m) parts seen bs o ≡ stop (suc m) bs o
+records-faulty : (w m parts : ℕ) (seen : List Kit) (bs : List ℕ) (o : ℕ) →
+    one (recordSize w) (newKit w parts seen) bs o ≡ fault o →
+    records w (suc m) parts seen bs o ≡ stop (suc m) bs o
 unfolding records unless
-records-faulty m parts seen bs o e = rw e
+records-faulty w m parts seen bs o e = rw e
 
-records-suc : (m parts : ℕ) (seen : List Kit) (bs b rest : List ℕ) (o p : ℕ) →
-    one (recordSize placeBytes) (newKit placeBytes parts seen) bs o ≡ item b rest p →
-    records placeBytes (suc m) parts seen bs o ≡ also (kitIn placeBytes b) (records placeBytes m parts (kitIn placeBytes b ∷ seen) rest p)
+records-suc : (w m parts : ℕ) (seen : List Kit) (bs b rest : List ℕ) (o p : ℕ) →
+    one (recordSize w) (newKit w parts seen) bs o ≡ item b rest p →
+    records w (suc m) parts seen bs o ≡ also (kitIn w b) (records w m parts (kitIn w b ∷ seen) rest p)
 unfolding records unless
-records-suc m parts seen bs b rest o p e = rw e
+records-suc w m parts seen bs b rest o p e = rw e
 
--- k of n records are read, and the next starts at a place
-pub record Judging (s : List ℕ) (from parts n : ℕ) (marks : List ℕ) (prev : Row) (nodes at k : ℕ) : Type 0 where
+-- k of n records are read, and the next starts at a place; a place in a record takes w bytes
+pub record Judging (w : ℕ) (s : List ℕ) (from parts n : ℕ) (marks : List ℕ) (prev : Row) (nodes at k : ℕ) : Type 0 where
   pub pre : List Kit
   pub seen : List Kit
-  pub goes : records placeBytes n parts [] (drop from s) from ≡ prepend pre (records placeBytes (n - k) parts seen (drop at s) at)
+  pub goes : records (placeBytes parts) n parts [] (drop from s) from ≡ prepend pre (records w (n - k) parts seen (drop at s) at)
   pub tags : Tags marks seen
   pub latest : Latest prev k seen
   pub many : length pre ≡ k
@@ -98,12 +98,12 @@ prepend-none : (r : Run) → prepend [] r ≡ r
 unfolding prepend
 prepend-none r = refl
 
-pub judging-start : (s : List ℕ) (from parts n : ℕ) (marks : List ℕ) (prev : Row) → from ≤ length s → ((t : ℕ) → getD marks t 0 ≡ 0) →
-    length marks ≡ twoLimit → unitsIn prev ≡ [] → prev .len ≡ 0 → Judging s from parts n marks prev 1 from 0
-judging-start s from parts n marks prev h z b u e = record {
+pub judging-start : (w : ℕ) (s : List ℕ) (from parts n : ℕ) (marks : List ℕ) (prev : Row) → w ≡ placeBytes parts → from ≤ length s →
+    ((t : ℕ) → getD marks t 0 ≡ 0) → length marks ≡ twoLimit → unitsIn prev ≡ [] → prev .len ≡ 0 → Judging w s from parts n marks prev 1 from 0
+judging-start w s from parts n marks prev v h z b u e = record {
   pre = [];
   seen = [];
-  goes = rw sub-zero (sym (prepend-none (records placeBytes n parts [] (drop from s) from)));
+  goes = rw (sub-zero, v) (sym (prepend-none (records (placeBytes parts) n parts [] (drop from s) from)));
   tags = no-tags marks z;
   latest = none-latest prev;
   many = refl;
@@ -123,43 +123,43 @@ new-latest : (row : Row) (k : ℕ) (x : Kit) (seen : List Kit) → unitsIn row �
 unfolding Latest
 new-latest row k x seen e = (omega arith, e)
 
-module _ {s : List ℕ} {from parts n : ℕ} {marks : List ℕ} {prev : Row} {nodes at k : ℕ}
-    (J : Judging s from parts n marks prev nodes at k) where
+module _ {w : ℕ} {s : List ℕ} {from parts n : ℕ} {marks : List ℕ} {prev : Row} {nodes at k : ℕ}
+    (J : Judging w s from parts n marks prev nodes at k) where
   -- a record at fault
-  pub judging-fault : k < n → one (recordSize placeBytes) (newKit placeBytes parts (J .seen)) (drop at s) at ≡ fault at →
-      (ps : List (List ℕ)) → Fault at ≡ judgedOf (whole ps (records placeBytes n parts [] (drop from s) from))
+  pub judging-fault : k < n → one (recordSize w) (newKit w parts (J .seen)) (drop at s) at ≡ fault at →
+      (ps : List (List ℕ)) → Fault at ≡ judgedOf (whole ps (records (placeBytes parts) n parts [] (drop from s) from))
   unfolding judgedOf whole
   judging-fault h e ps =
       let z : n - k ≡ suc (n - (k + 1)) = omega arith in
-      let r : records placeBytes n parts [] (drop from s)
+      let r : records (placeBytes parts) n parts [] (drop from s)
       from ≡ record { kits = J .pre; rest = drop at s; offset = at; missing = suc (n - (k + 1)) } = J .goes ∙ rw
-      (z, records-faulty (n - (k + 1)) parts (J .seen) (drop at s) at e) (prepend-stop (J .pre) (suc (n - (k + 1))) (drop at s) at) in
-      let w : eqb (suc (n - (k + 1))) 0 ≡ false = ne-eqb (suc (n - (k + 1))) 0 (λ q. omega arith) in
-      rw (r, w)
+      (z, records-faulty w (n - (k + 1)) parts (J .seen) (drop at s) at e) (prepend-stop (J .pre) (suc (n - (k + 1))) (drop at s) at) in
+      let f : eqb (suc (n - (k + 1))) 0 ≡ false = ne-eqb (suc (n - (k + 1))) 0 (λ q. omega arith) in
+      rw (r, f)
 
-  all-read : n ≡ k → records placeBytes n parts [] (drop from s) from ≡ record { kits = J .pre; rest = drop at s; offset = at; missing = 0 }
+  all-read : n ≡ k → records (placeBytes parts) n parts [] (drop from s) from ≡ record { kits = J .pre; rest = drop at s; offset = at; missing = 0 }
   all-read e =
       let z : n - k ≡ 0 = omega arith in
-      J .goes ∙ rw (z, records-none parts (J .seen) (drop at s) at) (prepend-stop (J .pre) 0 (drop at s) at)
+      J .goes ∙ rw (z, records-none w parts (J .seen) (drop at s) at) (prepend-stop (J .pre) 0 (drop at s) at)
 
   -- bytes remain
   pub judging-over : n ≡ k → at < length s → (ps : List (List ℕ)) →
-      Fault at ≡ judgedOf (whole ps (records placeBytes n parts [] (drop from s) from))
+      Fault at ≡ judgedOf (whole ps (records (placeBytes parts) n parts [] (drop from s) from))
   unfolding judgedOf whole
   judging-over e h ps =
       let r = all-read e in
-      let w : eqb (length (drop at s)) 0 ≡ false = ne-eqb (length (drop at s)) 0 (λ q. omega (arith, length-drop at s)) in
-      rw (r, w)
+      let f : eqb (length (drop at s)) 0 ≡ false = ne-eqb (length (drop at s)) 0 (λ q. omega (arith, length-drop at s)) in
+      rw (r, f)
 
   -- a faultless sheet
   pub judging-good : Bytes (drop from s) → n ≡ k → length s ≤ at → (sheet : Sheet) → sheet .parts ≡ parts → sheet .kits ≡ n →
       (ps : List (List ℕ)) → length ps ≡ sheet .parts →
-      Good sheet nodes ≡ judgedOf (whole ps (records placeBytes n parts [] (drop from s) from))
+      Good sheet nodes ≡ judgedOf (whole ps (records (placeBytes parts) n parts [] (drop from s) from))
   unfolding judgedOf whole
   judging-good b e h sheet p q ps l =
       let r = all-read e in
       let d : drop at s ≡ [] = drop-of-length-le s h in
-      let R = records-back placeBytes n parts [] (drop from s) from b in
+      let R = records-back (placeBytes parts) n parts [] (drop from s) from b in
       let i : rising (J .pre) ≡ true = new-kits-rise (rw r at (R .news)) in
       let g = growth-beginnings (J .pre) i in
       let c : nodes ≡ 1 + length (allBeginnings (J .pre)) = omega (arith, J .count) in
@@ -170,18 +170,18 @@ module _ {s : List ℕ} {from parts n : ℕ} {marks : List ℕ} {prev : Row} {no
       same-sheet x c e f = λ t. record { parts = e t; kits = f t }
 
   -- one record more
-  module _ (h : k < n) (w : WholeAt s at) (good : newKit placeBytes parts (J .seen) (recordAt s at) ≡ true) (row : Row)
-      (is-row : row ≡ fixedRow (units (listAt s at))) (fits : length (units (listAt s at)) ≤ mostUnits)
+  module _ (h : k < n) (there : WholeAt w s at) (good : newKit w parts (J .seen) (recordAt w s at) ≡ true) (row : Row)
+      (is-row : row ≡ fixedRow (units (listAt w s at))) (fits : length (units (listAt w s at)) ≤ mostUnits)
       (t : ℕ) (tag-read : t ≡ fromBytes (take twoBytes (drop at s))) (small : t < twoLimit) (g : ℕ)
-      (alike : g ≡ agreed (unitsIn prev) (unitsIn row)) (r : ℕ) (ends : r ≡ at + recordSize placeBytes (drop at s)) where
+      (alike : g ≡ agreed (unitsIn prev) (unitsIn row)) (r : ℕ) (ends : r ≡ at + recordSize w (drop at s)) where
     abbrev kit : Kit
-    kit = kitIn placeBytes (recordAt s at)
+    kit = kitIn w (recordAt w s at)
 
     row-read : unitsIn row ≡ kit .row
-    row-read = rw is-row (row-back (units (listAt s at))) ∙ sym (row-is s at w)
+    row-read = rw is-row (row-back (units (listAt w s at))) ∙ sym (row-is w s at)
 
     tag-here : kit .tag ≡ t
-    tag-here = tag-is s at w ∙ sym tag-read
+    tag-here = tag-is w s at ∙ sym tag-read
 
     mark-tag : Tags (set marks t 1) (kit ∷ J .seen)
     mark-tag u v = tag-one u kit (J .seen) ∙ rw tag-here (go (eqb u t) refl)
@@ -193,30 +193,30 @@ module _ {s : List ℕ} {from parts n : ℕ} {marks : List ℕ} {prev : Row} {no
             rw q
         go false e = rw (getD-set-other marks t u 1 0 (eqb-false u t e)) (J .tags u v)
 
-    pub judging-on : Judging s from parts n (set marks t 1) row (nodes + (row .len - g)) r (k + 1)
+    pub judging-on : Judging w s from parts n (set marks t 1) row (nodes + (row .len - g)) r (k + 1)
     judging-on =
         let z : n - k ≡ suc (n - (k + 1)) = omega arith in
-        let i = one-ok (recordSize placeBytes) (newKit placeBytes parts (J .seen)) (drop at s) at
-        (omega (arith, size-at s at, length-drop at s)) good in
-        let d : drop (recordSize placeBytes (drop at s)) (drop at s) ≡ drop r s = drop-drop (recordSize placeBytes (drop at s)) at s ∙ ap
+        let i = one-ok (recordSize w) (newKit w parts (J .seen)) (drop at s) at
+        (omega (arith, size-at w s at, length-drop at s)) good in
+        let d : drop (recordSize w (drop at s)) (drop at s) ≡ drop r s = drop-drop (recordSize w (drop at s)) at s ∙ ap
         (λ (x : ℕ). drop x s) (sym ends) in
-        let m = records-suc (n - (k + 1)) parts (J .seen) (drop at s) (recordAt s at) (drop (recordSize placeBytes (drop at s)) (drop at s))
-        at (at + recordSize placeBytes (drop at s)) i in
+        let m = records-suc w (n - (k + 1)) parts (J .seen) (drop at s) (recordAt w s at) (drop (recordSize w (drop at s)) (drop at s))
+        at (at + recordSize w (drop at s)) i in
         let b = rw (d, ← ends) at m in
-        let len : row .len ≡ length (kit .row) = rw is-row (sym (ap length (row-is s at w))) in
+        let len : row .len ≡ length (kit .row) = rw is-row (sym (ap length (row-is w s at))) in
         let a : agreed (lastRow [] (J .pre)) (kit .row) ≡ g = rw (J .last, ← row-read) (sym alike) in
         record {
           pre = J .pre ++ (kit ∷ []);
           seen = kit ∷ J .seen;
           goes =
-              J .goes ∙ rw (z, b) (sym (prepend-last (J .pre) kit (records placeBytes (n - (k + 1)) parts (kit ∷ J .seen) (drop r s) r)));
+              J .goes ∙ rw (z, b) (sym (prepend-last (J .pre) kit (records w (n - (k + 1)) parts (kit ∷ J .seen) (drop r s) r)));
           tags = mark-tag;
           latest = new-latest row k kit (J .seen) row-read;
           many = length-append (J .pre) (kit ∷ []) ∙ (omega (arith, J .many));
           count = omega (arith, J .count, growth-last [] (J .pre) kit);
           last = last-row [] (J .pre) kit ∙ sym row-read;
           short = rw is-row fits;
-          inside = omega (arith, size-at s at);
+          inside = omega (arith, size-at w s at);
           few = let q : row .len ≤ 64 = rw is-row fits in omega (arith, J .few);
           board = length-set marks t 1 ∙ J .board;
         }
@@ -228,7 +228,7 @@ module _ (s : List ℕ) (at : ℕ) (ps : List (List ℕ)) where
   count-short h k = let e = two-short anyTwo s at h k in rw e
 
   pub count-read : (n m : ℕ) → at + 2 ≤ length s → n ≡ length ps → m ≡ fromBytes (take twoBytes (drop at s)) →
-      judgedOf (whole ps (records placeBytes m n [] (drop (at + 2) s) (at + 2))) ≡ judgedOf (behindNumbers ps (drop at s) at)
+      judgedOf (whole ps (records (placeBytes n) m n [] (drop (at + 2) s) (at + 2))) ≡ judgedOf (behindNumbers ps (drop at s) at)
   unfolding behindNumbers onward
   count-read n m h e f = let i = two-ok anyTwo s at h (any-good (take twoBytes (drop at s))) in rw (i, e, f)
 

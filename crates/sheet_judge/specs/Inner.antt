@@ -35,7 +35,7 @@ judgedOf (fault o) = Fault o
 
 -- behind the numbers ps: kit count, kit records, the end
 unfoldable pub behindNumbers : List (List ℕ) → Reading Contents
-behindNumbers ps bs o = onward (one (bytes twoBytes) anyTwo bs o) (λ k rest p. whole ps (records placeBytes (fromBytes k) (length ps) [] rest p))
+behindNumbers ps bs o = onward (one (bytes twoBytes) anyTwo bs o) (λ k rest p. whole ps (records (placeBytes (length ps)) (fromBytes k) (length ps) [] rest p))
 
 -- mark, version and part count were read: the part count, or the first fault
 pub record Headed (s : List ℕ) (n : ℕ) : Type 0 where

@@ -2,16 +2,17 @@
 // faulty item starts, or the counts of a faultless sheet and the nodes that it needs.
 ghost use mathlib.Core.Path.{_≡_};
 ghost use mathlib.Core.Bool.{_&&_, _||_};
-ghost use mathlib.Core.List.{List, []};
+ghost use mathlib.Core.List.{List, [], _∷_};
 ghost use Prim.Native.Nat.{ℕ, _+_, _<_, _≤_};
 ghost use lib.ListN.{length, drop};
+ghost use lib.Dec.{leb, eqb};
 ghost use Rattle.ground.specs.Limits.{byteLimit, mostParts, twoLimit};
-ghost use Rattle.ground.specs.Lists.{isZero};
+ghost use Rattle.ground.specs.Lists.{anyb, isZero};
 ghost use Rattle.kits.specs.Kits.{mostUnits, before};
 ghost use Rattle.kits.specs.Inner.{unitsIn};
-ghost use Rattle.sheet.specs.Sheet.{placeBytes};
+ghost use Rattle.sheet.specs.Sheet.{version, placeBytes};
 ghost use Rattle.sheet.specs.Inner.{headBytes};
-ghost use Rattle.sheet.specs.Reading.{onward, numbers, records, whole, decode};
+ghost use Rattle.sheet.specs.Reading.{versions, onward, numbers, records, whole, decode};
 ghost use Rattle.sheet_judge.specs.Inner.{judgedOf, behindNumbers, headSays, numbersSay, NumberEnds, goodLines, newTag};
 use answers::refused;
 use ground::same;
@@ -32,8 +33,9 @@ use repeats::repeats_earlier;
 use sheet::Sheet;
 use sheet::TWO_BYTES;
 use sheet::item_size;
-use sheet::lines_size;
 use sheet::list_in;
+use sheet::list_words;
+use sheet::place_bytes;
 use sheet::record_end;
 use sheet::two_at;
 
@@ -54,6 +56,26 @@ enum Read {
     Done(usize),
 }
 
+// "version 1 .. and version 2"
+fn is_version(v: u16) -> bool
+    ensures { λ r. ⌜ r ≡ anyb (eqb v) versions ⌝ }
+{
+    if v == Sheet::NARROW {
+        return true;
+    }
+    v == Sheet::WIDE
+}
+
+// Whether a sheet of the version v may have so many parts: not too many, and those of its version.
+fn count_ok(v: u16, parts: u16) -> bool
+    ensures { λ r. ⌜ r ≡ (leb parts mostParts && eqb v (version parts)) ⌝ }
+{
+    if Sheet::MOST_PARTS < parts {
+        return false;
+    }
+    v == Sheet::version(parts)
+}
+
 // Mark, version and part count.
 fn read_head(s: &[u8]) -> Read
     ensures { λ r. ⌜ headSays (now (s .entry)) r ⌝ }
@@ -68,14 +90,15 @@ fn read_head(s: &[u8]) -> Read
     if s.len() < Sheet::PARTS_AT {
         return Read::Fault(Sheet::VERSION_AT);
     }
-    if two_at(s, Sheet::VERSION_AT) != Sheet::VERSION {
+    let version = two_at(s, Sheet::VERSION_AT);
+    if !is_version(version) {
         return Read::Fault(Sheet::VERSION_AT);
     }
     if s.len() < Sheet::HEAD {
         return Read::Fault(Sheet::PARTS_AT);
     }
     let count = two_at(s, Sheet::PARTS_AT);
-    if Sheet::MOST_PARTS < count {
+    if !count_ok(version, count) {
         return Read::Fault(Sheet::PARTS_AT);
     }
     Read::Done(wide16(count))
@@ -169,9 +192,10 @@ fn comes_after(prev: Row, row: Row, k: usize) -> bool
 fn judge_records(s: &[u8], from: usize, sheet: Sheet) -> Judged
     requires { ⌜ from ≤ length (now s) ⌝ }
     ensures { λ r. ⌜ ((ps : List (List ℕ)) → length ps ≡ sheet .parts → r ≡ judgedOf
-        (whole ps (records placeBytes (sheet .kits) (sheet .parts) [] (drop from (now (s .entry))) from))) ⌝ }
+        (whole ps (records (placeBytes (sheet .parts)) (sheet .kits) (sheet .parts) [] (drop from (now (s .entry))) from))) ⌝ }
 {
     let parts = sheet.parts;
+    let w = place_bytes(parts);
     let n = wide16(sheet.kits);
     let mut tags = [0; TAGS];
     let mut prev = no_row();
@@ -179,17 +203,17 @@ fn judge_records(s: &[u8], from: usize, sheet: Sheet) -> Judged
     let mut at = from;
     let mut k = 0;
     while k < n {
-        let end = record_end(s, at);
+        let end = record_end(s, at, w);
         if end == at {
             return Judged::Fault(at);
         }
         let tag = wide16(two_at(s, at));
-        let size = lines_size(s, at);
-        let list = list_in(s, at);
-        if !record_good(tag, &tags, &list[0..size], parts) {
+        let words = list_words(s, at);
+        let list = list_in(s, at, w);
+        if !record_good(tag, &tags, &list[0..words], parts) {
             return Judged::Fault(at);
         }
-        let row = row_of(&list[0..size]);
+        let row = row_of(&list[0..words]);
         if !comes_after(prev, row, k) {
             return Judged::Fault(at);
         }

@@ -8,6 +8,7 @@ use native.Mathlib.Omega.{arith}
 use lib.ListN.{length, take, drop, getD, length-append}
 use lib.Seq.{drop-drop, getD-drop, take-append-seam, drop-append-seam}
 use borrow.Author.Tests.{lt-ltb, le-ltb}
+use Rattle.ground.specs.Limits.{byteLimit}
 use Rattle.ground.specs.Lists.{allb, concat}
 use Rattle.ground.specs.Laid.{zeroed}
 use Rattle.ground.specs.Calls.{done, refused, decide, answer, Promise}
@@ -19,12 +20,14 @@ use Rattle.register.proofs.Slots.{number-short}
 use Rattle.nodes.specs.Nodes.{size, nodesLength}
 use Rattle.nodes.specs.Held.{Kit}
 use Rattle.index_insert.specs.Enter.{enterAll}
-use Rattle.sheet.specs.Bytes.{inBytes, two, Bytes}
-use Rattle.sheet.specs.Sheet.{Contents, placeBytes, numberItem, numberItems, recordItem, recordItems, encode, slotsNeeded, nodesNeeded}
+use Rattle.sheet.specs.Bytes.{inBytes, twoBytes, two, Bytes}
+use Rattle.sheet.specs.Sheet.{Contents, placeBytes, numberItem, numberItems, recordItem, recordItems, encodeAs, encode, slotsNeeded}
+use Rattle.sheet.specs.Sheet.{nodesNeeded}
 use Rattle.sheet.specs.Inner.{goodKit, fitsSheet, headBytes}
 use Rattle.sheet.specs.Reading.{Item, item, fault, recordSize, kitIn, decode, isFault, offset, said}
 use Rattle.sheet.specs.Calls.{sheetRefusals, roomRefusals}
 use Rattle.sheet.specs.declared.Sheet.{Sheet}
+use Rattle.sheet.proofs.Widths.{version-width, version-room}
 use Rattle.sheet.proofs.Written.{kit-back, record-size}
 use Rattle.sheet.proofs.Laws.{encode-decode}
 use Rattle.sheet.specs.Inner.{numbersAt, endAt, recordAt}
@@ -97,46 +100,45 @@ stand s at (p ∷ ps) rest g h =
     (stand s (at + 1 + length p) ps rest (and-right (goodNumber p) (allb goodNumber ps) g) (o .2))
 
 -- Kit records that stand from a place on
-record KitsAre (s : List ℕ) (at : ℕ) (ks : List Kit) : Type 0 where
-  are : kitsRead s at (length ks) ≡ ks
-  end : endRead s at (length ks) ≡ at + length (recordItems placeBytes ks)
+record KitsAre (w : ℕ) (s : List ℕ) (at : ℕ) (ks : List Kit) : Type 0 where
+  are : kitsRead w s at (length ks) ≡ ks
+  end : endRead w s at (length ks) ≡ at + length (recordItems w ks)
 
-kits-cons : (s : List ℕ) (at k : ℕ) →
-    kitsRead s at (suc k) ≡ kitIn placeBytes (recordAt s at) ∷ kitsRead s (at + recordSize placeBytes (drop at s)) k
+kits-cons : (w : ℕ) (s : List ℕ) (at k : ℕ) →
+    kitsRead w s at (suc k) ≡ kitIn w (recordAt w s at) ∷ kitsRead w s (at + recordSize w (drop at s)) k
 unfolding kitsRead
-kits-cons s at k = refl
+kits-cons w s at k = refl
 
-read-cons : (s : List ℕ) (at k : ℕ) → endRead s at (suc k) ≡ endRead s (at + recordSize placeBytes (drop at s)) k
+read-cons : (w : ℕ) (s : List ℕ) (at k : ℕ) → endRead w s at (suc k) ≡ endRead w s (at + recordSize w (drop at s)) k
 unfolding endRead
-read-cons s at k = refl
+read-cons w s at k = refl
 
-records-cons : (k : Kit) (ks : List Kit) → recordItems placeBytes (k ∷ ks) ≡ recordItem placeBytes k ++ recordItems placeBytes ks
+records-cons : (w : ℕ) (k : Kit) (ks : List Kit) → recordItems w (k ∷ ks) ≡ recordItem w k ++ recordItems w ks
 unfolding recordItems concat
-records-cons k ks = refl
+records-cons w k ks = refl
 
-kits-none : (s : List ℕ) (at : ℕ) → KitsAre s at []
+kits-none : (w : ℕ) (s : List ℕ) (at : ℕ) → KitsAre w s at []
 unfolding kitsRead endRead recordItems concat
-kits-none s at = record { are = refl; end = omega arith }
+kits-none w s at = record { are = refl; end = omega arith }
 
-kits-are : (s : List ℕ) (n at : ℕ) (ks : List Kit) (rest : List ℕ) → n ≤ 255 → allb (goodKit n) ks ≡ true →
-    drop at s ≡ recordItems placeBytes ks ++ rest → KitsAre s at ks
+kits-are : (w : ℕ) (s : List ℕ) (n at : ℕ) (ks : List Kit) (rest : List ℕ) → n < byteLimit ^ w → allb (goodKit n) ks ≡ true →
+    drop at s ≡ recordItems w ks ++ rest → KitsAre w s at ks
 unfolding allb
-kits-are s n at [] rest m g h = kits-none s at
-kits-are s n at (k ∷ ks) rest m g h =
+kits-are w s n at [] rest room g h = kits-none w s at
+kits-are w s n at (k ∷ ks) rest room g h =
     let good : goodKit n k ≡ true = and-left (goodKit n k) (allb (goodKit n) ks) g in
-    let room : n < 256 ^ 1 = omega arith in
-    let X = recordItem placeBytes k in
-    let Y = recordItems placeBytes ks ++ rest in
-    let e : drop at s ≡ X ++ Y = h ∙ ap (λ (x : List ℕ). x ++ rest) (records-cons k ks) ∙ append-assoc X (recordItems placeBytes ks) rest in
-    let z : recordSize placeBytes (drop at s) ≡ length X = ap (recordSize placeBytes) e ∙ record-size placeBytes n room k good Y in
-    let r : recordAt s at ≡ X = rw (z, e) (take-append-seam X Y) in
+    let X = recordItem w k in
+    let Y = recordItems w ks ++ rest in
+    let e : drop at s ≡ X ++ Y = h ∙ ap (λ (x : List ℕ). x ++ rest) (records-cons w k ks) ∙ append-assoc X (recordItems w ks) rest in
+    let z : recordSize w (drop at s) ≡ length X = ap (recordSize w) e ∙ record-size w n room k good Y in
+    let r : recordAt w s at ≡ X = rw (z, e) (take-append-seam X Y) in
     let d : drop (at + length X) s ≡ Y = sym (drop-drop (length X) at s) ∙ ap (drop (length X)) e ∙ drop-append-seam X Y in
-    let i = kits-are s n (at + length X) ks rest m (and-right (goodKit n k) (allb (goodKit n) ks) g) d in
+    let i = kits-are w s n (at + length X) ks rest room (and-right (goodKit n k) (allb (goodKit n) ks) g) d in
     record {
-      are = kits-cons s at (length ks) ∙ rw (r, z, kit-back placeBytes n room k good) (ap (_∷_ k) (i .are));
+      are = kits-cons w s at (length ks) ∙ rw (r, z, kit-back w n room k good) (ap (_∷_ k) (i .are));
       end =
-          read-cons s at (length ks) ∙ rw z
-          (i .end ∙ (omega (arith, ap length (records-cons k ks), length-append X (recordItems placeBytes ks))));
+          read-cons w s at (length ks) ∙ rw z
+          (i .end ∙ (omega (arith, ap length (records-cons w k ks), length-append X (recordItems w ks))));
     }
 
 -- A sheet that is written
@@ -144,54 +146,58 @@ module _ (c : Contents) (fits : fitsSheet c ≡ true) where
   abbrev S : List ℕ
   S = encode c
 
+  abbrev w : ℕ
+  w = placeBytes (length (c .parts))
+
   abbrev tail : List ℕ
-  tail = two (length (c .kits)) ++ recordItems placeBytes (c .kits)
+  tail = two (length (c .kits)) ++ recordItems w (c .kits)
 
   F : Fits c
   F = fitting-fits c fits
 
   behind-head : drop headBytes (encode c) ≡ numberItems (c .parts) ++ tail
-  unfolding encode inBytes
+  unfolding encode encodeAs inBytes
   behind-head = refl
 
   parts-stand : Stand (encode c) headBytes (c .parts)
   parts-stand = stand (encode c) headBytes (c .parts) tail (F .numbers-good) behind-head
 
   abbrev first : ℕ
-  first = headBytes + length (numberItems (c .parts)) + 2
+  first = headBytes + length (numberItems (c .parts)) + twoBytes
 
-  behind-count : drop first (encode c) ≡ recordItems placeBytes (c .kits) ++ []
+  behind-count : drop first (encode c) ≡ recordItems w (c .kits) ++ []
   unfolding inBytes
   behind-count =
       let P = numberItems (c .parts) in
       let e : drop (headBytes + length P) (encode c) ≡ tail = sym (drop-drop (length P) headBytes (encode c)) ∙ ap (drop (length P))
       behind-head ∙ drop-append-seam P tail in
-      sym (drop-drop 2 (headBytes + length P) (encode c)) ∙ ap (drop 2) e ∙ sym (append-nil (recordItems placeBytes (c .kits)))
+      sym (drop-drop 2 (headBytes + length P) (encode c)) ∙ ap (drop 2) e ∙ sym (append-nil (recordItems w (c .kits)))
 
-  records-stand : KitsAre (encode c) first (c .kits)
-  records-stand = kits-are (encode c) (length (c .parts)) first (c .kits) [] (F .few-parts) (F .kits-good) behind-count
+  records-stand : KitsAre w (encode c) first (c .kits)
+  records-stand = kits-are w (encode c) (length (c .parts)) first (c .kits) [] (version-room (length (c .parts)) (F .few-parts)) (F .kits-good) behind-count
 
-  sheet-long : length (encode c) ≡ first + length (recordItems placeBytes (c .kits))
-  unfolding encode inBytes
+  sheet-long : length (encode c) ≡ first + length (recordItems w (c .kits))
+  unfolding encode encodeAs inBytes
   sheet-long = omega (arith, length-append (numberItems (c .parts)) tail)
 
   pub parts-read : numbersAt (encode c) headBytes (length (c .parts)) ≡ c .parts
   parts-read = parts-stand .are
 
-  pub first-record : endAt (encode c) headBytes (length (c .parts)) + 2 ≡ first
+  pub first-record : endAt (encode c) headBytes (length (c .parts)) + twoBytes ≡ first
   first-record = omega (arith, parts-stand .end)
 
-  pub kits-read : kitsRead (encode c) (endAt (encode c) headBytes (length (c .parts)) + 2) (length (c .kits)) ≡ c .kits
+  pub kits-read : kitsRead (placeBytes (length (c .parts))) (encode c) (endAt (encode c) headBytes (length (c .parts)) + twoBytes) (length (c .kits)) ≡ c .kits
   kits-read = rw first-record (records-stand .are)
 
   pub numbers-ready : (R : List ℕ) → registerLength R ≡ true → slotsNeeded c ≤ slotCount R → NumbersStand (encode c) (length (c .parts)) R
   numbers-ready R h r = record { fits = h; slots = r; inside = omega (arith, parts-stand .end, sheet-long); short = parts-stand .short }
 
   pub kits-ready : (N : List ℕ) → nodesLength N ≡ true → nodesNeeded c ≤ size N →
-      KitsStand (encode c) (endAt (encode c) headBytes (length (c .parts)) + 2) (length (c .kits)) N
+      KitsStand (placeBytes (length (c .parts))) (encode c) (endAt (encode c) headBytes (length (c .parts)) + twoBytes) (length (c .kits)) N
   kits-ready N h r =
       let e = kits-read in
       record {
+        width = version-width (length (c .parts));
         parts = length (c .parts);
         few = F .few-parts;
         inside = rw first-record (omega (arith, records-stand .end, sheet-long));
@@ -286,11 +292,11 @@ module _ {s : List ℕ} {sheet : Sheet} {need : ℕ} (F : Faultless s sheet need
         let q = part-count in
         subst (λ (x : List ℕ). NumbersStand x n R) (again .0) (rw q (numbers-ready (F .says) (again .1) R h (omega arith)))
 
-    pub kits-stand : nodesLength N ≡ true → KitsStand s (endAt s headBytes n + 2) m N
+    pub kits-stand : nodesLength N ≡ true → KitsStand (placeBytes n) s (endAt s headBytes n + twoBytes) m N
     kits-stand h =
         let q = part-count in
         let p = kit-count in
-        subst (λ (x : List ℕ). KitsStand x (endAt x headBytes n + 2) m N) (again .0)
+        subst (λ (x : List ℕ). KitsStand (placeBytes n) x (endAt x headBytes n + twoBytes) m N) (again .0)
         (rw (q, p) (kits-ready (F .says) (again .1) N h (omega (arith, F .nodes))))
 
     parts-said : numbersAt s headBytes n ≡ F .says .parts
@@ -298,15 +304,15 @@ module _ {s : List ℕ} {sheet : Sheet} {need : ℕ} (F : Faultless s sheet need
         let q = part-count in
         subst (λ (x : List ℕ). numbersAt x headBytes n ≡ F .says .parts) (again .0) (rw q (parts-read (F .says) (again .1)))
 
-    kits-said : kitsRead s (endAt s headBytes n + 2) m ≡ F .says .kits
+    kits-said : kitsRead (placeBytes n) s (endAt s headBytes n + twoBytes) m ≡ F .says .kits
     kits-said =
         let q = part-count in
         let p = kit-count in
-        subst (λ (x : List ℕ). kitsRead x (endAt x headBytes n + 2) m ≡ F .says .kits) (again .0)
+        subst (λ (x : List ℕ). kitsRead (placeBytes n) x (endAt x headBytes n + twoBytes) m ≡ F .says .kits) (again .0)
         (rw (q, p) (kits-read (F .says) (again .1)))
 
     pub reading-done : (P Q : List ℕ) → P ≡ registerOf (slotCount R) (numbersAt s headBytes n) →
-        Q ≡ enterAll (zeroed N) (kitsRead s (endAt s headBytes n + 2) m) →
+        Q ≡ enterAll (zeroed N) (kitsRead (placeBytes n) s (endAt s headBytes n + twoBytes) m) →
         Promise (readingInto s (tables R N)) (tables R N) (done m) (tables P Q)
     unfolding readingInto sheetRefusals roomRefusals answer decide filling
     reading-done P Q p q =

@@ -16,8 +16,7 @@ use Rattle.register.specs.Number.{longestNumber}
 use Rattle.register.specs.Register.{slotCount, registerLength}
 use Rattle.nodes.specs.Nodes.{size, nodesLength}
 use Rattle.nodes.specs.Held.{Kit, tagsOf, allBeginnings}
-use Rattle.sheet.specs.Sheet.{placeBytes}
-use Rattle.sheet.specs.Inner.{goodKit, rising, headBytes, endAt, recordAt}
+use Rattle.sheet.specs.Inner.{Width, goodKit, rising, headBytes, endAt, recordAt}
 use Rattle.sheet.specs.Reading.{decode, said, recordSize, kitIn}
 use Rattle.sheet.specs.Calls.{sheetRefusals}
 use Rattle.ground.specs.Tables.{Tables}
@@ -32,14 +31,14 @@ readingInto s T =
 abbrev pub ReadPromise : List ℕ → Tables → Answer → Tables → Type 0
 ReadPromise s T r M = Promise (readingInto s T) T (reply r) M
 
--- the m kits whose records stand from a place on, and where they end
-unfoldable pub kitsRead : List ℕ → ℕ → ℕ → List Kit
-kitsRead s at zero = []
-kitsRead s at (suc m) = kitIn placeBytes (recordAt s at) ∷ kitsRead s (at + recordSize placeBytes (drop at s)) m
+-- the m kits whose records, in which places take w bytes, stand from a place on, and where they end
+unfoldable pub kitsRead : ℕ → List ℕ → ℕ → ℕ → List Kit
+kitsRead w s at zero = []
+kitsRead w s at (suc m) = kitIn w (recordAt w s at) ∷ kitsRead w s (at + recordSize w (drop at s)) m
 
-unfoldable pub endRead : List ℕ → ℕ → ℕ → ℕ
-endRead s at zero = at
-endRead s at (suc m) = endRead s (at + recordSize placeBytes (drop at s)) m
+unfoldable pub endRead : ℕ → List ℕ → ℕ → ℕ → ℕ
+endRead w s at zero = at
+endRead w s at (suc m) = endRead w s (at + recordSize w (drop at s)) m
 
 -- a number stands in the sheet s at a place, and a register has a slot k
 pub record NumberStands (s : List ℕ) (at k : ℕ) (R : List ℕ) : Type 0 where
@@ -54,13 +53,14 @@ pub record NumbersStand (s : List ℕ) (n : ℕ) (R : List ℕ) : Type 0 where
   pub inside : endAt s headBytes n ≤ length s
   pub short : (k : ℕ) → k < n → getD s (endAt s headBytes k) 0 ≤ longestNumber
 
--- m good kit records stand in the sheet s from a place on, and a node table has room for them
-pub record KitsStand (s : List ℕ) (at m : ℕ) (N : List ℕ) : Type 0 where
+-- m good kit records, in which places take w bytes, stand in the sheet s from a place on, and a node table has room for them
+pub record KitsStand (w : ℕ) (s : List ℕ) (at m : ℕ) (N : List ℕ) : Type 0 where
+  pub width : Width w
   pub parts : ℕ
   pub few : parts ≤ mostParts
-  pub inside : endRead s at m ≤ length s
-  pub good : allb (goodKit parts) (kitsRead s at m) ≡ true
-  pub unlike : distinct eqb (tagsOf (kitsRead s at m)) ≡ true
-  pub rises : rising (kitsRead s at m) ≡ true
+  pub inside : endRead w s at m ≤ length s
+  pub good : allb (goodKit parts) (kitsRead w s at m) ≡ true
+  pub unlike : distinct eqb (tagsOf (kitsRead w s at m)) ≡ true
+  pub rises : rising (kitsRead w s at m) ≡ true
   pub fits : nodesLength N ≡ true
-  pub room : 1 + length (allBeginnings (kitsRead s at m)) ≤ size N
+  pub room : 1 + length (allBeginnings (kitsRead w s at m)) ≤ size N

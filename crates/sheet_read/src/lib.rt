@@ -8,7 +8,7 @@ ghost use Rattle.repeats.specs.Inner.{numberHere, nextPlace};
 ghost use Rattle.register.specs.Register.{slotBytes, slotCount, registerLength, registerOf};
 ghost use Rattle.nodes.specs.Nodes.{nodesLength};
 ghost use Rattle.index_insert.specs.Enter.{enterAll};
-ghost use Rattle.sheet.specs.Sheet.{numberItem};
+ghost use Rattle.sheet.specs.Sheet.{placeBytes, numberItem};
 ghost use Rattle.sheet.specs.Bytes.{twoBytes};
 ghost use Rattle.sheet.specs.Inner.{headBytes, numbersAt, endAt};
 ghost use Rattle.sheet.specs.Reading.{decode};
@@ -28,6 +28,7 @@ use register::count_slots;
 use sheet::Sheet;
 use sheet::TWO_BYTES;
 use sheet::item_size;
+use sheet::place_bytes;
 use sheet::record_end;
 use sheet::row_in;
 use sheet::two_at;
@@ -38,7 +39,8 @@ use sheet_judge::no_row;
 // Sets the number that stands at a place of the sheet, with its length, into slot k: where it ends.
 fn enter_number(reg: &mut [u8], s: &[u8], at: usize, k: usize) -> usize
     requires { ⌜ NumberStands (now s) at k (now reg) ⌝ }
-    ensures { λ r. ⌜ r ≡ nextPlace (now (s .entry)) at ⌝ ∗ ⌜ now (reg .exit) ≡ laid (now (reg .entry)) (k * slotBytes) (numberItem (numberHere (now (s .entry)) at)) ⌝ }
+    ensures { λ r. ⌜ r ≡ nextPlace (now (s .entry)) at ⌝ ∗
+        ⌜ now (reg .exit) ≡ laid (now (reg .entry)) (k * slotBytes) (numberItem (numberHere (now (s .entry)) at)) ⌝ }
 {
     let end = at + item_size(s, at);
     copy_in(reg, k * SLOT_BYTES, &s[at..end]);
@@ -48,7 +50,8 @@ fn enter_number(reg: &mut [u8], s: &[u8], at: usize, k: usize) -> usize
 // Empties the register and fills it with the n numbers of the sheet: where they end.
 fn fill_register(reg: &mut [u8], s: &[u8], n: usize) -> usize
     requires { ⌜ NumbersStand (now s) n (now reg) ⌝ }
-    ensures { λ r. ⌜ r ≡ endAt (now (s .entry)) headBytes n ⌝ ∗ ⌜ now (reg .exit) ≡ registerOf (slotCount (now (reg .entry))) (numbersAt (now (s .entry)) headBytes n) ⌝ }
+    ensures { λ r. ⌜ r ≡ endAt (now (s .entry)) headBytes n ⌝ ∗
+        ⌜ now (reg .exit) ≡ registerOf (slotCount (now (reg .entry))) (numbersAt (now (s .entry)) headBytes n) ⌝ }
 {
     clear(reg);
     let mut at = Sheet::HEAD;
@@ -60,10 +63,10 @@ fn fill_register(reg: &mut [u8], s: &[u8], n: usize) -> usize
     at
 }
 
-// Empties the node table and enters the m kits whose records stand from a place on, in sheet order.
-fn fill_nodes(nodes: &mut [u16], s: &[u8], from: usize, m: usize)
-    requires { ⌜ KitsStand (now s) from m (now nodes) ⌝ }
-    ensures { λ _. ⌜ now (nodes .exit) ≡ enterAll (zeroed (now (nodes .entry))) (kitsRead (now (s .entry)) from m) ⌝ }
+// Empties the node table and enters the m kits whose records, in which places take w bytes, stand from a place on, in sheet order.
+fn fill_nodes(nodes: &mut [u16], s: &[u8], w: usize, from: usize, m: usize)
+    requires { ⌜ KitsStand w (now s) from m (now nodes) ⌝ }
+    ensures { λ _. ⌜ now (nodes .exit) ≡ enterAll (zeroed (now (nodes .entry))) (kitsRead w (now (s .entry)) from m) ⌝ }
 {
     clear_nodes(nodes);
     let mut prev = no_row();
@@ -71,22 +74,23 @@ fn fill_nodes(nodes: &mut [u16], s: &[u8], from: usize, m: usize)
     let mut n = 1;
     let mut k = 0;
     while k < m {
-        let row = row_in(s, at);
+        let row = row_in(s, at, w);
         n = append_row(nodes, prev, row, n, two_at(s, at));
         prev = row;
-        at = record_end(s, at);
+        at = record_end(s, at, w);
         k += 1;
     }
 }
 
 // Empties both tables and fills them with n parts and m kits of a sheet.
 pub fn fill(reg: &mut [u8], nodes: &mut [u16], s: &[u8], n: usize, m: usize)
-    requires { ⌜ NumbersStand (now s) n (now reg) ⌝ ∗ ⌜ KitsStand (now s) (endAt (now s) headBytes n + twoBytes) m (now nodes) ⌝ }
+    requires { ⌜ NumbersStand (now s) n (now reg) ⌝ ∗ ⌜ KitsStand (placeBytes n) (now s) (endAt (now s) headBytes n + twoBytes) m (now nodes) ⌝ }
     ensures { λ _. ⌜ (now (reg .exit) ≡ registerOf (slotCount (now (reg .entry))) (numbersAt (now (s .entry)) headBytes n)) ×
-        (now (nodes .exit) ≡ enterAll (zeroed (now (nodes .entry))) (kitsRead (now (s .entry)) (endAt (now (s .entry)) headBytes n + twoBytes) m)) ⌝ }
+        (now (nodes .exit) ≡ enterAll (zeroed (now (nodes .entry)))
+        (kitsRead (placeBytes n) (now (s .entry)) (endAt (now (s .entry)) headBytes n + twoBytes) m)) ⌝ }
 {
     let at = fill_register(reg, s, n);
-    fill_nodes(nodes, s, at + TWO_BYTES, m);
+    fill_nodes(nodes, s, place_bytes(n as u16), at + TWO_BYTES, m);
 }
 
 // A faultless sheet: 12, or both tables filled.

@@ -1,10 +1,11 @@
 -- Laws of the records of nodes and of the numbers in slots.
 use mathlib.Core.Path.{_≡_, refl, ap, sym, _∙_}
 use mathlib.Core.List.{List, [], _∷_, _++_, map, append-assoc, append-nil}
-use Prim.Native.Nat.{ℕ, _+_, _-_, _*_, _≤_, _<_}
+use Prim.Native.Nat.{ℕ, _+_, _-_, _*_, _/_, _≤_, _<_}
 use native.Mathlib.Omega.{arith}
 use lib.ListN.{length, length-append}
 use borrow.Author.Tests.{eq-eqb, ne-eqb}
+use Rattle.ground.specs.Limits.{byteLimit}
 use Rattle.ground.specs.Lists.{keep, concat}
 use Rattle.ground.proofs.Laws.{from-step, from-end, map-append}
 use Rattle.kits.specs.Kits.{mostUnits, mostPlace}
@@ -15,9 +16,10 @@ use Rattle.nodes.specs.Held.{Kit, kitAt}
 use Rattle.nodes.proofs.Sorted.{keep-append}
 use Rattle.nodes.proofs.Walk.{walk-none, walk-some}
 use Rattle.nodes.proofs.Rows.{row-good}
-use Rattle.sheet.specs.Sheet.{placeBytes, linesAt, numberItem, numberItems, recordItem, recordItems}
-use Rattle.sheet.specs.Inner.{kitOf, recordBytes}
+use Rattle.sheet.specs.Sheet.{lineBytes, linesAt, numberItem, numberItems, recordItem, recordItems}
+use Rattle.sheet.specs.Inner.{Width, mostRecord, kitOf, recordBytes}
 use Rattle.sheet.proofs.Lines.{record-bytes, record-long}
+use Rattle.sheet.proofs.Widths.{lines-most, lines-over}
 use Rattle.sheet_write.specs.Inner.{nodeRow, numbersFrom, kitsAt, recordsAt, ownRecord, recordsFrom, endOf, rowLines}
 use Rattle.sheet_write.proofs.Carried.{lines-long, end-few}
 
@@ -27,43 +29,43 @@ unfolding recordItems concat
 records-both w [] b = refl
 records-both w (k ∷ a) b = rw (append-assoc) (ap (λ (x : List ℕ). recordItem w k ++ x) (records-both w a b))
 
-module _ (N : List ℕ) where
-  pub records-append : (a b : List ℕ) → recordsAt N (a ++ b) ≡ recordsAt N a ++ recordsAt N b
+module _ (w : ℕ) (N : List ℕ) where
+  pub records-append : (a b : List ℕ) → recordsAt w N (a ++ b) ≡ recordsAt w N a ++ recordsAt w N b
   unfolding recordsAt kitsAt
   records-append a b =
       rw (keep-append (tagged N) a b, map-append (kitAt N) (keep (tagged N) a) (keep (tagged N) b))
-      (records-both placeBytes (map (kitAt N) (keep (tagged N) a)) (map (kitAt N) (keep (tagged N) b)))
+      (records-both w (map (kitAt N) (keep (tagged N) a)) (map (kitAt N) (keep (tagged N) b)))
 
-  pub records-none : recordsAt N [] ≡ []
+  pub records-none : recordsAt w N [] ≡ []
   unfolding recordsAt kitsAt recordItems keep concat
   records-none = refl
 
-  pub own-none : (i : ℕ) → tag N i ≡ 0 → ownRecord N i ≡ []
+  pub own-none : (i : ℕ) → tag N i ≡ 0 → ownRecord w N i ≡ []
   unfolding recordsAt kitsAt recordItems keep concat tagged
   own-none i e = rw (eq-eqb (tag N i) 0 e)
 
-  pub own-some : (i : ℕ) → (tag N i ≡ 0 → ⊥) → ownRecord N i ≡ recordItem placeBytes (kitOf (nodeRow N i) (tag N i))
+  pub own-some : (i : ℕ) → (tag N i ≡ 0 → ⊥) → ownRecord w N i ≡ recordItem w (kitOf (nodeRow N i) (tag N i))
   unfolding recordsAt kitsAt recordItems keep concat tagged kitAt
-  own-some i f = rw (ne-eqb (tag N i) 0 f) (append-nil (recordItem placeBytes (kitOf (nodeRow N i) (tag N i))))
+  own-some i f = rw (ne-eqb (tag N i) 0 f) (append-nil (recordItem w (kitOf (nodeRow N i) (tag N i))))
 
-  pub root-first : recordsAt N (walkAll N) ≡ ownRecord N 0 ++ recordsFrom N (child N 0)
+  pub root-first : recordsAt w N (walkAll N) ≡ ownRecord w N 0 ++ recordsFrom w N (child N 0)
   unfolding walkAll
   root-first = records-append (0 ∷ []) (walk N (child N 0))
 
-  pub root-parts : {k : ℕ} → k ≡ child N 0 → recordsAt N (walkAll N) ≡ ownRecord N 0 ++ recordsFrom N k
+  pub root-parts : {k : ℕ} → k ≡ child N 0 → recordsAt w N (walkAll N) ≡ ownRecord w N 0 ++ recordsFrom w N k
   root-parts e = rw e root-first
 
-  pub root-long : {k : ℕ} → k ≡ child N 0 → length (recordsAt N (walkAll N)) ≡ length (ownRecord N 0) + length (recordsFrom N k)
-  root-long {k} e = omega (arith, ap length (root-parts e), length-append (ownRecord N 0) (recordsFrom N k))
+  pub root-long : {k : ℕ} → k ≡ child N 0 → length (recordsAt w N (walkAll N)) ≡ length (ownRecord w N 0) + length (recordsFrom w N k)
+  root-long {k} e = omega (arith, ap length (root-parts e), length-append (ownRecord w N 0) (recordsFrom w N k))
 
   module _ (S : Shape mostPlace N) where
-    pub from-none : recordsFrom N 0 ≡ []
-    from-none = ap (recordsAt N) (walk-none S) ∙ records-none
+    pub from-none : recordsFrom w N 0 ≡ []
+    from-none = ap (recordsAt w N) (walk-none S) ∙ records-none
 
-    pub from-some : (i : ℕ) → Used N i → recordsFrom N i ≡ ownRecord N i ++ (recordsFrom N (child N i) ++ recordsFrom N (next N i))
+    pub from-some : (i : ℕ) → Used N i → recordsFrom w N i ≡ ownRecord w N i ++ (recordsFrom w N (child N i) ++ recordsFrom w N (next N i))
     from-some i u =
-        ap (recordsAt N) (walk-some S i u) ∙ records-append (i ∷ []) (walk N (child N i) ++ walk N (next N i))
-        ∙ ap (λ (x : List ℕ). ownRecord N i ++ x) (records-append (walk N (child N i)) (walk N (next N i)))
+        ap (recordsAt w N) (walk-some S i u) ∙ records-append (i ∷ []) (walk N (child N i) ++ walk N (next N i))
+        ∙ ap (λ (x : List ℕ). ownRecord w N i ++ x) (records-append (walk N (child N i)) (walk N (next N i)))
 
 -- the numbers in slots
 pub numbers-step : (R : List ℕ) (n k : ℕ) → k < n →
@@ -81,15 +83,26 @@ number-size n = omega arith
 
 -- a node's own record, of the tag that was read
 module _ (N : List ℕ) (S : Shape mostPlace N) (i : ℕ) (u : Live N i) where
-  pub own-record : (t : ℕ) → t ≡ tag N i → (t ≡ 0 → ⊥) → recordBytes t (rowLines N i) ≡ ownRecord N i
-  own-record t e f = rw e (record-bytes (nodeRow N i) (tag N i) (row-good S i u) ∙ sym (own-some N i (λ z. f (e ∙ z))))
-
-  pub row-few : endOf (nodeRow N i) .at ≤ 2 * mostUnits
+  pub row-few : endOf (nodeRow N i) .at ≤ mostUnits
   row-few = omega (arith, end-few (nodeRow N i) .0, row-good S i u .short)
 
-  pub row-long : length (rowLines N i) ≡ endOf (nodeRow N i) .at
-  row-long = lines-long (nodeRow N i) (row-good S i u)
+  module _ {w : ℕ} (h : Width w) where
+    pub own-record : (t : ℕ) → t ≡ tag N i → (t ≡ 0 → ⊥) → recordBytes w t (rowLines w N i) ≡ ownRecord w N i
+    own-record t e f = rw e (record-bytes w (nodeRow N i) (tag N i) (row-good S i u) h ∙ sym (own-some w N i (λ z. f (e ∙ z))))
 
-  pub own-length : (t : ℕ) → t ≡ tag N i → (t ≡ 0 → ⊥) → length (ownRecord N i) ≡ linesAt + endOf (nodeRow N i) .at
-  own-length t e f =
-      omega (arith, ap length (own-record t e f), record-long t (rowLines N i), row-long)
+    pub row-long : length (rowLines w N i) ≡ endOf (nodeRow N i) .at * lineBytes w
+    row-long = lines-long w (nodeRow N i) (row-good S i u)
+
+    -- whose lines are as many as its row has
+    pub row-count : {ls : List ℕ} → ls ≡ rowLines w N i → length ls / lineBytes w < byteLimit
+    row-count {ls} e =
+        let n : length ls / lineBytes w ≡ endOf (nodeRow N i) .at =
+        ap (λ (n : ℕ). n / lineBytes w) (ap length e ∙ row-long) ∙ lines-over h (endOf (nodeRow N i) .at) in
+        omega (arith, n, row-few)
+
+    pub row-most : linesAt + endOf (nodeRow N i) .at * lineBytes w ≤ mostRecord
+    row-most = omega (arith, lines-most h (endOf (nodeRow N i) .at) mostUnits row-few)
+
+    pub own-length : (t : ℕ) → t ≡ tag N i → (t ≡ 0 → ⊥) → length (ownRecord w N i) ≡ linesAt + endOf (nodeRow N i) .at * lineBytes w
+    own-length t e f =
+        omega (arith, ap length (own-record t e f), record-long w t (rowLines w N i), row-long)

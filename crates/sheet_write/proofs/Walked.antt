@@ -1,22 +1,24 @@
 -- The walk of the writer: what it knows at each node, and takes along to the next.
-use mathlib.Core.Path.{_≡_, refl, ap, ap₂, sym, _∙_}
+use mathlib.Core.Path.{_≡_, ap, ap₂, sym, _∙_}
 use mathlib.Core.List.{List, [], _∷_, _++_}
-use Prim.Native.Nat.{ℕ, _+_, _-_, _≤_, _<_}
+use Prim.Native.Nat.{ℕ, _+_, _-_, _*_, _≤_, _<_}
+use native.Mathlib.Nat.{mul-le-mul-right}
 use native.Mathlib.Omega.{arith}
 use lib.ListN.{length, take, drop, length-append}
-use Rattle.ground.specs.Laid.{laid, Put}
-use Rattle.ground.proofs.Put.{put-put, put-same}
+use Rattle.ground.specs.Laid.{laid}
 use Rattle.kits.specs.Kits.{mostPlace, mostUnits, listOf}
 use Rattle.kits.specs.Inner.{GoodRow}
 use Rattle.nodes.specs.Nodes.{parent, child, next, label, size}
 use Rattle.nodes.specs.Inner.{Used, Live, Shape, rank}
 use Rattle.nodes.proofs.Rows.{climb, row-root, row-step, row-good}
 use Rattle.nodes.proofs.Walk.{root-inside, root-child, child-live, child-less, next-less}
-use Rattle.sheet.specs.Sheet.{placeBytes, lineItems}
+use Rattle.sheet.specs.Sheet.{lineBytes, lineItems}
+use Rattle.sheet.specs.Inner.{Width}
 use Rattle.sheet_write.specs.declared.EndLine.{EndLine}
-use Rattle.sheet_write.specs.Inner.{nodeRow, ownRecord, recordsFrom, noLine, endItem, withUnit, carryAll, endOf, rowBytes, rowLines}
+use Rattle.sheet_write.specs.Inner.{nodeRow, ownRecord, recordsFrom, noLine, endItem, withUnit, carryAll, endFrom, endOf, rowBytes, rowLines}
 use Rattle.sheet_write.specs.Inner.{Stands, Kept, EndsIn, Reached, StandsAbove}
-use Rattle.sheet_write.proofs.Carried.{end-few, end-next, end-on, above-fits, end-fits, both-stands, both-kept, both-lines, kept-stands}
+use Rattle.sheet_write.proofs.Carried.{startOf, next-line, end-few, end-next, end-on}
+use Rattle.sheet_write.proofs.Carried.{above-fits, end-fits, both-stands, both-kept, both-lines, kept-stands}
 use Rattle.sheet_write.proofs.Records.{from-none, from-some}
 
 -- A used node: two lines set down make the lines of its row
@@ -27,34 +29,46 @@ module _ {N : List ℕ} {i : ℕ} {above end : EndLine} (E : EndsIn N i above en
   row-fine : GoodRow mostPlace (nodeRow N i)
   row-fine = row-good (E .shape) i (λ _. E .used)
 
-  pub further : above .at ≤ end .at
-  further = rw (E .above-is, E .end-is, row-is) (end-on (nodeRow N (parent N i)) (label N i) .0)
+  pub end-most : end .at ≤ mostUnits
+  end-most = rw (E .end-is) (omega (arith, end-few (nodeRow N i) .0, row-fine .short))
 
-  module _ {lines : List ℕ} (S : Stands lines (nodeRow N (parent N i))) where
-    pub above-room : (above .at + 2 ≤ length lines) × (above .quantity < 256)
-    above-room = above-fits (label N i) row-is (E .above-is) (E .end-is) S (row-fine .short)
+  pub further : (w : ℕ) → startOf w above ≤ startOf w end
+  further w =
+      mul-le-mul-right (lineBytes w) (rw (E .above-is, E .end-is, row-is) (end-on (nodeRow N (parent N i)) (label N i) .0))
 
-    pub end-room : (once : List ℕ) → length once ≡ length lines → (end .at + 2 ≤ length once) × (end .quantity < 256)
-    end-room once w = rw w (end-fits (label N i) row-is (E .above-is) (E .end-is) S (row-fine .short))
+  module _ {w : ℕ} (h : Width w) {lines : List ℕ} (S : Stands w lines (nodeRow N (parent N i))) where
+    pub above-room : (startOf w above + lineBytes w ≤ length lines) × (above .quantity < 256)
+    above-room = above-fits h (label N i) row-is (E .above-is) (E .end-is) S (row-fine .short)
 
-    module _ {once twice : List ℕ} (first : once ≡ laid lines (above .at) (endItem above)) (second : twice ≡ laid once (end .at) (endItem end)) where
-      both-are : twice ≡ laid (laid lines (above .at) (endItem above)) (end .at) (endItem end)
-      both-are = second ∙ ap (λ (l : List ℕ). laid l (end .at) (endItem end)) first
+    pub end-room : (once : List ℕ) → length once ≡ length lines → (startOf w end + lineBytes w ≤ length once) × (end .quantity < 256)
+    end-room once e = rw e (end-fits h (label N i) row-is (E .above-is) (E .end-is) S (row-fine .short))
 
-      pub own-stands : Stands twice (nodeRow N i)
-      own-stands = rw both-are (both-stands (label N i) row-is (E .above-is) (E .end-is) S (row-fine .short))
+    module _ {once twice : List ℕ} (first : once ≡ laid lines (startOf w above) (endItem w above))
+        (second : twice ≡ laid once (startOf w end) (endItem w end)) where
+      both-are : twice ≡ laid (laid lines (startOf w above) (endItem w above)) (startOf w end) (endItem w end)
+      both-are = second ∙ ap (λ (l : List ℕ). laid l (startOf w end) (endItem w end)) first
 
-      pub above-kept : Kept (above .at) lines twice
-      above-kept = rw both-are (both-kept (label N i) row-is (E .above-is) (E .end-is) S (row-fine .short))
+      pub own-stands : Stands w twice (nodeRow N i)
+      own-stands = rw both-are (both-stands h (label N i) row-is (E .above-is) (E .end-is) S (row-fine .short))
 
-      pub own-lines : take (end .at + 2 - 2) (drop 2 twice) ≡ rowLines N i
+      pub above-kept : Kept (startOf w above) lines twice
+      above-kept = rw both-are (both-kept h (label N i) row-is (E .above-is) (E .end-is) S (row-fine .short))
+
+      pub own-lines : take ((end .at + 1) * lineBytes w - lineBytes w) (drop (lineBytes w) twice) ≡ rowLines w N i
       own-lines =
-          let e : end .at + 2 - 2 ≡ end .at = omega arith in
-          rw (both-are, e) (both-lines (label N i) row-is (E .above-is) (E .end-is) S (row-fine .short) row-fine)
+          let e : (end .at + 1) * lineBytes w - lineBytes w ≡ startOf w end = omega (arith, next-line w (end .at)) in
+          rw (both-are, e) (both-lines h (label N i) row-is (E .above-is) (E .end-is) S (row-fine .short) row-fine)
 
--- A link: none, or to a node
-pub none-from : {N : List ℕ} {i : ℕ} {above : EndLine} → Reached N i above → i ≡ 0 → recordsFrom N i ≡ []
-none-from {N} R e = ap (recordsFrom N) e ∙ from-none N (R .shape)
+-- A link: none, or to a node; the walk along a chain has come to it from another
+pub record Along (N : List ℕ) (link i : ℕ) (above : EndLine) : Type 0 where
+  pub reached : Reached N i above
+  pub later : rank N i ≤ rank N link
+
+pub along-start : {N : List ℕ} {i : ℕ} {above : EndLine} → Reached N i above → Along N i i above
+along-start R = record { reached = R; later = omega arith }
+
+pub none-from : (w : ℕ) {N : List ℕ} {i : ℕ} {above : EndLine} → Reached N i above → i ≡ 0 → recordsFrom w N i ≡ []
+none-from w {N} R e = ap (recordsFrom w N) e ∙ from-none w N (R .shape)
 
 module _ {N : List ℕ} {i : ℕ} {above : EndLine} (R : Reached N i above) (n : (i ≡ 0 → ⊥)) where
   there : 0 < i
@@ -69,25 +83,26 @@ module _ {N : List ℕ} {i : ℕ} {above : EndLine} (R : Reached N i above) (n :
   above-short : length (nodeRow N (parent N i)) ≤ mostUnits
   above-short = row-good (R .shape) (parent N i) (R .shape .good i here .above) .short
 
-  pub may-add : (above .at ≤ rowBytes) × (above .quantity ≤ mostUnits)
+  pub may-add : (above .at ≤ mostUnits) × (above .quantity ≤ mostUnits)
   may-add =
       let h = end-few (nodeRow N (parent N i)) in
       rw (R .above-is there) (omega (arith, h .0, above-short), omega (arith, h .1, above-short))
 
-  pub to-next : {m : ℕ} → m ≡ next N i → Reached N m above
+  to-next : {m : ℕ} → m ≡ next N i → Reached N m above
   to-next e = rw e (record {
     shape = R .shape;
     live = R .shape .good i here .sibling;
     above-is = λ g. R .above-is there ∙ ap (λ j. endOf (nodeRow N j)) (sym (R .shape .good i here .same g));
   })
 
-  pub next-stands : {m : ℕ} {lines : List ℕ} → m ≡ next N i → Stands lines (nodeRow N (parent N i)) → StandsAbove N m lines
+  pub next-stands : {w m : ℕ} {lines : List ℕ} → m ≡ next N i → Stands w lines (nodeRow N (parent N i)) → StandsAbove w N m lines
   next-stands e s = rw e (λ g. rw (R .shape .good i here .same g) s)
 
-  pub still-stands : {lines later : List ℕ} → Kept (above .at) lines later → Stands lines (nodeRow N (parent N i)) → Stands later (nodeRow N (parent N i))
+  pub still-stands : {w : ℕ} {lines later : List ℕ} → Kept (startOf w above) lines later → Stands w lines (nodeRow N (parent N i)) →
+      Stands w later (nodeRow N (parent N i))
   still-stands h s = kept-stands (rw (R .above-is there) at h) s
 
-  pub above-stands : {lines : List ℕ} → StandsAbove N i lines → Stands lines (nodeRow N (parent N i))
+  pub above-stands : {w : ℕ} {lines : List ℕ} → StandsAbove w N i lines → Stands w lines (nodeRow N (parent N i))
   above-stands s = s there
 
   -- what is below it and what is behind it
@@ -97,22 +112,18 @@ module _ {N : List ℕ} {i : ℕ} {above : EndLine} (R : Reached N i above) (n :
   pub next-falls : {m : ℕ} → m ≡ next N i → rank N m < rank N i
   next-falls e = rw e (next-less (R .shape) i here)
 
-  module _ {k m : ℕ} (k-is : k ≡ child N i) (m-is : m ≡ next N i) where
-    parts-are : recordsFrom N i ≡ ownRecord N i ++ (recordsFrom N k ++ recordsFrom N m)
-    parts-are = rw (k-is, m-is) (from-some N (R .shape) i here)
+  module _ (w : ℕ) {k m : ℕ} (k-is : k ≡ child N i) (m-is : m ≡ next N i) where
+    pub parts-are : recordsFrom w N i ≡ ownRecord w N i ++ (recordsFrom w N k ++ recordsFrom w N m)
+    parts-are = rw (k-is, m-is) (from-some w N (R .shape) i here)
 
-    pub parts-long : length (recordsFrom N i) ≡ length (ownRecord N i) + (length (recordsFrom N k) + length (recordsFrom N m))
+    pub parts-long : length (recordsFrom w N i) ≡ length (ownRecord w N i) + (length (recordsFrom w N k) + length (recordsFrom w N m))
     parts-long =
         omega (
           arith,
           ap length parts-are,
-          length-append (ownRecord N i) (recordsFrom N k ++ recordsFrom N m),
-          length-append (recordsFrom N k) (recordsFrom N m),
+          length-append (ownRecord w N i) (recordsFrom w N k ++ recordsFrom w N m),
+          length-append (recordsFrom w N k) (recordsFrom w N m),
         )
-
-    pub set-down : {o o₁ o₂ o₃ : List ℕ} {a b c d : ℕ} → Put o a (ownRecord N i) b o₁ → Put o₁ b (recordsFrom N k) c o₂ →
-        Put o₂ c (recordsFrom N m) d o₃ → Put o a (recordsFrom N i) d o₃
-    set-down x y z = put-same (put-put x (put-put y z)) (sym parts-are)
 
   -- with its label
   module _ {l : ℕ} {end : EndLine} (l-is : l ≡ label N i) (e-is : end ≡ withUnit above l) where
@@ -133,8 +144,12 @@ module _ {N : List ℕ} {i : ℕ} {above : EndLine} (R : Reached N i above) (n :
       above-is = λ g. ends .end-is ∙ ap (λ j. endOf (nodeRow N j)) (sym (R .shape .head i in-table .back g));
     })
 
-    pub child-stands : {k : ℕ} {lines : List ℕ} → k ≡ child N i → Stands lines (nodeRow N i) → StandsAbove N k lines
+    pub child-stands : {w k : ℕ} {lines : List ℕ} → k ≡ child N i → Stands w lines (nodeRow N i) → StandsAbove w N k lines
     child-stands e s = rw e (λ g. rw (R .shape .head i in-table .back g) s)
+
+-- the next on the chain
+pub along-next : {N : List ℕ} {link i m : ℕ} {above : EndLine} (A : Along N link i above) → (i ≡ 0 → ⊥) → m ≡ next N i → Along N link m above
+along-next A n e = record { reached = to-next (A .reached) n e; later = omega (arith, A .later, next-falls (A .reached) n e) }
 
 -- The root
 module _ {N : List ℕ} (S : Shape mostPlace N) where
@@ -144,12 +159,12 @@ module _ {N : List ℕ} (S : Shape mostPlace N) where
   pub root-live : Live N 0
   root-live h = absurd (omega arith)
 
-  pub root-lines : rowLines N 0 ≡ []
+  pub root-lines : (w : ℕ) → rowLines w N 0 ≡ []
   unfolding listOf lineItems
-  root-lines = ap (λ (r : List ℕ). lineItems placeBytes (listOf r)) root-row
+  root-lines w = ap (λ (r : List ℕ). lineItems w (listOf r)) root-row
 
   pub root-end : {e : EndLine} → e ≡ noLine → e ≡ endOf (nodeRow N 0)
-  unfolding carryAll
+  unfolding endFrom
   root-end e = e ∙ ap endOf (sym root-row)
 
   pub root-reached : {k : ℕ} {e : EndLine} → k ≡ child N 0 → e ≡ noLine → Reached N k e
@@ -159,6 +174,8 @@ module _ {N : List ℕ} (S : Shape mostPlace N) where
     above-is = λ g. root-end e ∙ ap (λ j. endOf (nodeRow N j)) (sym (S .head 0 (root-inside S) .back g));
   })
 
-  pub root-stands : {k : ℕ} {lines : List ℕ} → k ≡ child N 0 → length lines ≡ rowBytes → StandsAbove N k lines
-  unfolding carryAll
-  root-stands k-is w = rw k-is (λ g. rw (S .head 0 (root-inside S) .back g, root-row) (record { wide = w; front = refl }))
+  pub root-stands : {w k : ℕ} {lines : List ℕ} → k ≡ child N 0 → length lines ≡ rowBytes → StandsAbove w N k lines
+  unfolding carryAll endFrom
+  root-stands {w} {k} {lines} k-is e =
+      let z : 0 * lineBytes w ≡ 0 = omega arith in
+      rw k-is (λ g. rw (S .head 0 (root-inside S) .back g, root-row) (record { wide = e; front = ap (λ (n : ℕ). take n lines) z }))

@@ -24,12 +24,12 @@ use Rattle.nodes.proofs.Lists.{same-or}
 use Rattle.nodes.proofs.Sorted.{keep-short}
 use Rattle.nodes.proofs.Walk.{ind, walk-some, root-child}
 use Rattle.sheet.specs.Bytes.{two}
-use Rattle.sheet.specs.Sheet.{Contents, contentsOf, mark, version, placeBytes, numberItems, recordItems, encode}
-use Rattle.sheet.specs.Inner.{mostRecord}
+use Rattle.sheet.specs.Sheet.{Contents, contentsOf, mark, version, placeBytes, numberItems, recordItems, encodeAs, encode}
+use Rattle.sheet.specs.Inner.{Width, mostRecord}
 use Rattle.sheet.specs.Calls.{writingOf}
 use Rattle.sheet.proofs.Numbers.{two-length}
 use Rattle.sheet_write.specs.Inner.{headItems, numbersFrom, kitsAt, recordsAt, ownRecord, recordsFrom}
-use Rattle.sheet_write.proofs.Records.{own-none, own-length, row-few, root-first, from-none, from-some}
+use Rattle.sheet_write.proofs.Records.{own-none, own-length, row-most, root-first, from-none, from-some}
 
 -- putting kits in order does not change their number
 put-more : (k : Kit) (ks : List Kit) → length (putKit k ks) ≡ 1 + length ks
@@ -46,31 +46,31 @@ unfolding inOrder
 order-many [] = refl
 order-many (k ∷ ks) = put-more k (inOrder ks) ∙ (omega (arith, order-many ks))
 
-module _ (N : List ℕ) where
-  pub held-records : Shape mostPlace N → recordItems placeBytes (held N) ≡ recordsAt N (walkAll N)
+module _ (w : ℕ) (N : List ℕ) where
+  pub held-records : Shape mostPlace N → recordItems w (held N) ≡ recordsAt w N (walkAll N)
   unfolding recordsAt kitsAt
-  held-records S = ap (recordItems placeBytes) (held-is-walk S)
+  held-records S = ap (recordItems w) (held-is-walk S)
 
--- no record takes more than 131 bytes, and there are no more than nodes
-module _ (N : List ℕ) (S : Shape mostPlace N) where
-  own-most : (i : ℕ) → Live N i → length (ownRecord N i) ≤ mostRecord
+-- no record takes more than 195 bytes, and there are no more than nodes
+module _ {w : ℕ} (width : Width w) (N : List ℕ) (S : Shape mostPlace N) where
+  own-most : (i : ℕ) → Live N i → length (ownRecord w N i) ≤ mostRecord
   own-most i u = ⊎-elim
-      (λ (e : tag N i ≡ 0). omega (arith, ap length (own-none N i e)))
-      (λ (f : tag N i ≢ 0). omega (arith, own-length N S i u (tag N i) refl f, row-few N S i u))
+      (λ (e : tag N i ≡ 0). omega (arith, ap length (own-none w N i e)))
+      (λ (f : tag N i ≢ 0). omega (arith, own-length N S i u width (tag N i) refl f, row-most N S i u width))
       (same-or (tag N i) 0)
 
-  walk-most : (i : ℕ) → Live N i → length (recordsFrom N i) ≤ mostRecord * length (walk N i)
+  walk-most : (i : ℕ) → Live N i → length (recordsFrom w N i) ≤ mostRecord * length (walk N i)
   walk-most =
-      ind S (λ (i : ℕ). length (recordsFrom N i) ≤ mostRecord * length (walk N i))
-      (omega (arith, ap length (from-none N S)))
+      ind S (λ (i : ℕ). length (recordsFrom w N i) ≤ mostRecord * length (walk N i))
+      (omega (arith, ap length (from-none w N S)))
       (λ i u h k. omega (
         arith,
         h,
         k,
         own-most i (λ _. u),
-        ap length (from-some N S i u),
-        length-append (ownRecord N i) (recordsFrom N (child N i) ++ recordsFrom N (next N i)),
-        length-append (recordsFrom N (child N i)) (recordsFrom N (next N i)),
+        ap length (from-some w N S i u),
+        length-append (ownRecord w N i) (recordsFrom w N (child N i) ++ recordsFrom w N (next N i)),
+        length-append (recordsFrom w N (child N i)) (recordsFrom w N (next N i)),
         ap length (walk-some S i u),
         length-append (walk N (child N i)) (walk N (next N i)),
       ))
@@ -79,12 +79,12 @@ module _ (N : List ℕ) (S : Shape mostPlace N) where
   unfolding walkAll usedNodes nodesOf
   walk-few = omega (arith, used-walk S, keep-short (isUsed N) (from 0 (size N)), length-from 0 (size N), S .sized .most)
 
-  pub records-most : length (recordsAt N (walkAll N)) ≤ mostRecord * mostNodes
+  pub records-most : length (recordsAt w N (walkAll N)) ≤ mostRecord * mostNodes
   records-most =
       omega (
         arith,
-        ap length (root-first N),
-        length-append (ownRecord N 0) (recordsFrom N (child N 0)),
+        ap length (root-first w N),
+        length-append (ownRecord w N 0) (recordsFrom w N (child N 0)),
         own-most 0 (λ h. absurd (omega arith)),
         walk-most (child N 0) (root-child S),
         walk-few,
@@ -97,31 +97,35 @@ module _ (R : List ℕ) (ready : Ready R) where
 
 -- the items of the sheet
 module _ (R N : List ℕ) (ready : Ready R) (n m : ℕ) (parts : n ≡ length (partsOf R)) (kits : m ≡ length (held N)) where
-  pub sheet-items : Shape mostPlace N → encode (contentsOf R N) ≡ headItems n ++ (numbersFrom R 0 n ++ (two m ++ recordsAt N (walkAll N)))
-  unfolding encode headItems
+  pub sheet-items : Shape mostPlace N →
+      encode (contentsOf R N) ≡ headItems n ++ (numbersFrom R 0 n ++ (two m ++ recordsAt (placeBytes n) N (walkAll N)))
+  unfolding encode encodeAs headItems
   sheet-items S =
+      let p = length (partsOf R) in
       let e = parts-numbers R ready in
-      let f = held-records N S in
-      let A = numbersFrom R 0 (length (partsOf R)) in
-      let B = two (length (held N)) ++ recordsAt N (walkAll N) in
-      rw (parts, kits, e, f) (ap (λ (x : List ℕ). mark ++ x) (sym (append-assoc (two version) (two (length (partsOf R))) (A ++ B))))
+      let f = held-records (placeBytes p) N S in
+      let A = numbersFrom R 0 p in
+      let B = two (length (held N)) ++ recordsAt (placeBytes p) N (walkAll N) in
+      rw (parts, kits, e, f) (ap (λ (x : List ℕ). mark ++ x) (sym (append-assoc (two (version p)) (two p) (A ++ B))))
 
-  pub sheet-size : Shape mostPlace N → length (encode (contentsOf R N)) ≡ 7 + length (numbersFrom R 0 n) + 2 + length (recordsAt N (walkAll N))
-  unfolding encode
+  pub sheet-size : Shape mostPlace N →
+      length (encode (contentsOf R N)) ≡ 7 + length (numbersFrom R 0 n) + 2 + length (recordsAt (placeBytes n) N (walkAll N))
+  unfolding encode encodeAs
   sheet-size S =
       let P = numberItems (partsOf R) in
-      let K = recordItems placeBytes (held N) in
       let k = length (held N) in
       let p = length (partsOf R) in
+      let K = recordItems (placeBytes p) (held N) in
       let e : length P ≡ length (numbersFrom R 0 n) = rw parts (ap length (parts-numbers R ready)) in
+      let f : length K ≡ length (recordsAt (placeBytes n) N (walkAll N)) = rw parts (ap length (held-records (placeBytes p) N S)) in
       omega (
         arith,
         e,
-        ap length (held-records N S),
-        two-length version,
+        f,
+        two-length (version p),
         two-length p,
         two-length k,
-        length-append (two version)
+        length-append (two (version p))
             (two p ++ (P ++ (two k ++ K))),
         length-append (two p) (P ++ (two k ++ K)),
         length-append P (two k ++ K),

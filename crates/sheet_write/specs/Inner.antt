@@ -3,7 +3,7 @@
 use mathlib.Core.Path.{_≡_}
 use mathlib.Core.Bool.{cond}
 use mathlib.Core.List.{List, [], _∷_, _++_, map}
-use Prim.Native.Nat.{ℕ, _+_, _<_}
+use Prim.Native.Nat.{ℕ, _+_, _*_, _<_}
 use lib.Dec.{eqb}
 use lib.ListN.{length, take}
 use Rattle.ground.specs.Lists.{keep, from}
@@ -14,7 +14,7 @@ use Rattle.nodes.specs.Nodes as table
 use Rattle.nodes.specs.Inner.{Shape, Used, Live, walk}
 use Rattle.nodes.specs.Held.{Kit, kitAt, held}
 use Rattle.sheet.specs.Bytes.{inBytes, two}
-use Rattle.sheet.specs.Sheet.{placeBytes, lineBytes, mark, version, numberItems, lineItems, recordItems}
+use Rattle.sheet.specs.Sheet.{lineBytes, mark, version, numberItems, lineItems, recordItems}
 use Rattle.sheet.specs.declared.Sheet.{Sheet}
 use Rattle.sheet_write.specs.declared.EndLine.{EndLine}
 
@@ -24,7 +24,7 @@ nodeRow N i = table.rowOf N i
 
 -- mark, version, part count
 unfoldable pub headItems : ℕ → List ℕ
-headItems parts = mark ++ (two version ++ two parts)
+headItems parts = mark ++ (two (version parts) ++ two parts)
 
 -- the numbers in n slots from slot k on
 unfoldable pub numbersFrom : List ℕ → ℕ → ℕ → List ℕ
@@ -34,16 +34,16 @@ numbersFrom R k n = numberItems (map (numberAt R) (from k n))
 unfoldable pub kitsAt : List ℕ → List ℕ → List Kit
 kitsAt N is = map (kitAt N) (keep (tagged N) is)
 
--- their records
-unfoldable pub recordsAt : List ℕ → List ℕ → List ℕ
-recordsAt N is = recordItems placeBytes (kitsAt N is)
+-- their records, where a place takes w bytes
+unfoldable pub recordsAt : ℕ → List ℕ → List ℕ → List ℕ
+recordsAt w N is = recordItems w (kitsAt N is)
 
 -- the record of node i's own kit, where one ends there; and those of all nodes that the walk from a link meets
-abbrev pub ownRecord : List ℕ → ℕ → List ℕ
-ownRecord N i = recordsAt N (i ∷ [])
+abbrev pub ownRecord : ℕ → List ℕ → ℕ → List ℕ
+ownRecord w N i = recordsAt w N (i ∷ [])
 
-abbrev pub recordsFrom : List ℕ → ℕ → List ℕ
-recordsFrom N i = recordsAt N (walk N i)
+abbrev pub recordsFrom : ℕ → List ℕ → ℕ → List ℕ
+recordsFrom w N i = recordsAt w N (walk N i)
 
 -- a sheet's counts are those of a register and a node table
 pub record Counted (R N : List ℕ) (s : Sheet) : Type 0 where
@@ -61,48 +61,53 @@ abbrev pub noLine : EndLine
 noLine = endLine 0 0 0
 
 -- the bytes of what a row ends in
-abbrev pub endItem : EndLine → List ℕ
-endItem e = inBytes placeBytes (e .place) ++ (e .quantity ∷ [])
+abbrev pub endItem : ℕ → EndLine → List ℕ
+endItem w e = inBytes w (e .place) ++ (e .quantity ∷ [])
 
 -- a unit more: the same line again, or the next
 unfoldable pub withUnit : EndLine → ℕ → EndLine
 withUnit e x = cond (eqb x (e .place))
     (record { at = e .at; place = e .place; quantity = e .quantity + 1 })
-    (record { at = e .at + lineBytes placeBytes; place = x; quantity = 1 })
+    (record { at = e .at + 1; place = x; quantity = 1 })
 
 -- the bytes in front of what a row ends in; and that
 pub record Carried : Type 0 where
   pub front : List ℕ
   pub end : EndLine
 
-unfoldable pub carry : Carried → ℕ → Carried
-carry s x = record { front = cond (eqb x (s .end .place)) (s .front) (s .front ++ endItem (s .end)); end = withUnit (s .end) x }
+unfoldable pub carry : ℕ → Carried → ℕ → Carried
+carry w s x = record { front = cond (eqb x (s .end .place)) (s .front) (s .front ++ endItem w (s .end)); end = withUnit (s .end) x }
 
-unfoldable pub carryAll : Carried → List ℕ → Carried
-carryAll s [] = s
-carryAll s (x ∷ r) = carryAll (carry s x) r
+unfoldable pub carryAll : ℕ → Carried → List ℕ → Carried
+carryAll w s [] = s
+carryAll w s (x ∷ r) = carryAll w (carry w s x) r
 
-abbrev pub carried : List ℕ → Carried
-carried r = carryAll (record { front = []; end = noLine }) r
+abbrev pub carried : ℕ → List ℕ → Carried
+carried w r = carryAll w (record { front = []; end = noLine }) r
+
+-- what a row ends in is the same in any width
+unfoldable pub endFrom : EndLine → List ℕ → EndLine
+endFrom e [] = e
+endFrom e (x ∷ r) = endFrom (withUnit e x) r
 
 abbrev pub endOf : List ℕ → EndLine
-endOf r = carried r .end
+endOf r = endFrom noLine r
 
--- the lines of 64 units, behind the root's
+-- the lines of 64 units, behind the root's, in the widest places
 abbrev pub rowBytes : ℕ
-rowBytes = 130
+rowBytes = 195
 
 -- the lines of node i's row
-abbrev pub rowLines : List ℕ → ℕ → List ℕ
-rowLines N i = lineItems placeBytes (listOf (nodeRow N i))
+abbrev pub rowLines : ℕ → List ℕ → ℕ → List ℕ
+rowLines w N i = lineItems w (listOf (nodeRow N i))
 
 ------------------------------------------------------------------------
 -- The walk
 
 -- Lines that stand from the start on as a row has them, but for what it ends in
-pub record Stands (lines r : List ℕ) : Type 0 where
+pub record Stands (w : ℕ) (lines r : List ℕ) : Type 0 where
   pub wide : length lines ≡ rowBytes
-  pub front : take (endOf r .at) lines ≡ carried r .front
+  pub front : take (endOf r .at * lineBytes w) lines ≡ carried w r .front
 
 -- What stands in front of a place is as it was
 pub record Kept (n : ℕ) (lines later : List ℕ) : Type 0 where
@@ -122,5 +127,5 @@ pub record Reached (N : List ℕ) (link : ℕ) (above : EndLine) : Type 0 where
   pub live : Live N link
   pub above-is : 0 < link → above ≡ endOf (nodeRow N (parent N link))
 
-abbrev pub StandsAbove : List ℕ → ℕ → List ℕ → Type 0
-StandsAbove N link lines = 0 < link → Stands lines (nodeRow N (parent N link))
+abbrev pub StandsAbove : ℕ → List ℕ → ℕ → List ℕ → Type 0
+StandsAbove w N link lines = 0 < link → Stands w lines (nodeRow N (parent N link))

@@ -13,9 +13,9 @@ ghost use Rattle.register.specs.Number.{longestNumber};
 ghost use Rattle.register.specs.Inner.{Ready, Short};
 ghost use Rattle.nodes.specs.Nodes.{parent, mostNodes};
 ghost use Rattle.nodes.specs.Inner.{walkAll, Live, Shape, Sound};
-ghost use Rattle.sheet.specs.Sheet.{placeBytes, lineBytes, contentsOf, encode};
+ghost use Rattle.sheet.specs.Sheet.{lineBytes, contentsOf, encode};
 ghost use Rattle.sheet.specs.Calls.{writingOf};
-ghost use Rattle.sheet.specs.Inner.{mostItem, mostRecord};
+ghost use Rattle.sheet.specs.Inner.{Width, mostItem, mostRecord};
 ghost use Rattle.sheet_write.specs.Inner.{nodeRow, headItems, numbersFrom, Counted, recordsAt, ownRecord, recordsFrom};
 ghost use Rattle.sheet_write.specs.Inner.{noLine, endItem, withUnit, endOf, rowBytes, rowLines, Stands, EndsIn, Kept, endLine, Reached, StandsAbove};
 use answers::Answer;
@@ -31,10 +31,11 @@ use nodes::tally_at;
 use register::SLOT_BYTES;
 use register::count_parts;
 use repeats::LENGTH_BYTES;
-use sheet::LINE_BYTES;
 use sheet::LINES_AT;
+use sheet::QUANTITY_BYTES;
 use sheet::Sheet;
 use sheet::TWO_BYTES;
+use sheet::place_bytes;
 use sheet::put_kit;
 use sheet::put_line;
 use sheet::put_number;
@@ -51,7 +52,7 @@ fn number_in(reg: &[u8], k: usize) -> &[u8]
     &reg[start..end]
 }
 
-// The line that a row ends in: where it stands behind the lines before it, its place and its quantity. In front of every row stands a line of
+// The line that a row ends in: how many lines stand before it, its place and its quantity. In front of every row stands a line of
 // nothing, the root's, so that each row ends in one.
 pub struct EndLine {
     pub at: usize,
@@ -73,11 +74,11 @@ impl EndLine {
 }
 
 // The lines of a row of 64 units at most, behind the root's.
-const ROW_BYTES: usize = LINE_BYTES * (MOST_UNITS + 1);
+const ROW_BYTES: usize = (TWO_BYTES + QUANTITY_BYTES) * (MOST_UNITS + 1);
 
 // What a row ends in with one unit more: the same line again, or the next.
 fn with_unit(end: EndLine, label: u16) -> EndLine
-    requires { ⌜ (end .at ≤ rowBytes) × (end .quantity ≤ mostUnits) ⌝ }
+    requires { ⌜ (end .at ≤ mostUnits) × (end .quantity ≤ mostUnits) ⌝ }
     ensures { λ r. ⌜ r ≡ withUnit end label ⌝ }
 {
     if label == end.place {
@@ -88,32 +89,32 @@ fn with_unit(end: EndLine, label: u16) -> EndLine
         };
     }
     EndLine {
-        at: end.at + LINE_BYTES,
+        at: end.at + 1,
         place: label,
         quantity: 1,
     }
 }
 
 // Sets a line down where it stands among the lines of its row.
-fn set_line(lines: &mut [u8], line: EndLine)
-    requires { ⌜ (line .at + lineBytes placeBytes ≤ length (now lines)) × (line .quantity < byteLimit) ⌝ }
-    ensures { λ _. ⌜ now (lines .exit) ≡ laid (now (lines .entry)) (line .at) (endItem line) ⌝ }
+fn set_line(lines: &mut [u8], line: EndLine, w: usize)
+    requires { ⌜ (line .at * lineBytes w + lineBytes w ≤ length (now lines)) × (line .quantity < byteLimit) ⌝ ∗ ⌜ Width w ⌝ }
+    ensures { λ _. ⌜ now (lines .exit) ≡ laid (now (lines .entry)) (line .at * lineBytes w) (endItem w line) ⌝ }
 {
-    let at = line.at;
-    put_line(&mut lines[at..], line.place, line.quantity);
+    let at = line.at * (w + QUANTITY_BYTES);
+    put_line(&mut lines[at..], line.place, line.quantity, w);
 }
 
 // The record of a node's own kit, where one ends there, from a place of the output on; `lines` are those of its row.
-fn put_own(out: &mut [u8], at: usize, nodes: &[u16], i: usize, lines: &[u8]) -> usize
-    requires { ⌜ Shape mostPlace (now nodes) ⌝ ∗ ⌜ Live (now nodes) i ⌝ ∗ ⌜ now lines ≡ rowLines (now nodes) i ⌝ ∗
-        ⌜ at + length (ownRecord (now nodes) i) ≤ length (now out) ⌝ }
-    ensures { λ r. ⌜ Put (now (out .entry)) at (ownRecord (now (nodes .entry)) i) r (now (out .exit)) ⌝ }
+fn put_own(out: &mut [u8], at: usize, nodes: &[u16], i: usize, lines: &[u8], w: usize) -> usize
+    requires { ⌜ Shape mostPlace (now nodes) ⌝ ∗ ⌜ Live (now nodes) i ⌝ ∗ ⌜ now lines ≡ rowLines w (now nodes) i ⌝ ∗ ⌜ Width w ⌝ ∗
+        ⌜ at + length (ownRecord w (now nodes) i) ≤ length (now out) ⌝ }
+    ensures { λ r. ⌜ Put (now (out .entry)) at (ownRecord w (now (nodes .entry)) i) r (now (out .exit)) ⌝ }
 {
     let tag = tag_at(nodes, i);
     if tag == 0 {
         return at;
     }
-    at + put_kit(&mut out[at..], tag, lines)
+    at + put_kit(&mut out[at..], tag, lines, w)
 }
 
 // The record of a used node. Of its row only two lines can differ from what stands in `lines`: what the row above ends in, and what it ends in itself.
@@ -125,16 +126,18 @@ fn put_node(
     lines: &mut [u8],
     above: EndLine,
     end: EndLine,
+    w: usize,
 ) -> usize
-    requires { ⌜ EndsIn (now nodes) i above end ⌝ ∗ ⌜ Stands (now lines) (nodeRow (now nodes) (parent (now nodes) i)) ⌝ ∗
-        ⌜ at + length (ownRecord (now nodes) i) ≤ length (now out) ⌝ }
-    ensures { λ r. ⌜ Put (now (out .entry)) at (ownRecord (now (nodes .entry)) i) r (now (out .exit)) ⌝ ∗
-        ⌜ Stands (now (lines .exit)) (nodeRow (now (nodes .entry)) i) ⌝ ∗ ⌜ Kept (above .at) (now (lines .entry)) (now (lines .exit)) ⌝ }
+    requires { ⌜ EndsIn (now nodes) i above end ⌝ ∗ ⌜ Width w ⌝ ∗ ⌜ Stands w (now lines) (nodeRow (now nodes) (parent (now nodes) i)) ⌝ ∗
+        ⌜ at + length (ownRecord w (now nodes) i) ≤ length (now out) ⌝ }
+    ensures { λ r. ⌜ Put (now (out .entry)) at (ownRecord w (now (nodes .entry)) i) r (now (out .exit)) ⌝ ∗
+        ⌜ Stands w (now (lines .exit)) (nodeRow (now (nodes .entry)) i) ⌝ ∗ ⌜ Kept (above .at * lineBytes w) (now (lines .entry)) (now (lines .exit)) ⌝ }
 {
-    set_line(lines, above);
-    set_line(lines, end);
-    let to = end.at + LINE_BYTES;
-    put_own(out, at, nodes, i, &lines[LINE_BYTES..to])
+    set_line(lines, above, w);
+    set_line(lines, end, w);
+    let line = w + QUANTITY_BYTES;
+    let to = (end.at + 1) * line;
+    put_own(out, at, nodes, i, &lines[line..to], w)
 }
 
 // The records of the kits on the chain that starts at a link, each node's own before those below it: in listing order. The row of the node above
@@ -148,26 +151,38 @@ fn put_kits(
     line: usize,
     place: u16,
     quantity: u16,
+    w: usize,
 ) -> usize
-    requires { ⌜ Reached (now nodes) link (endLine line place quantity) ⌝ ∗ ⌜ StandsAbove (now nodes) link (now lines) ⌝ ∗
-        ⌜ at + length (recordsFrom (now nodes) link) ≤ length (now out) ⌝ }
-    ensures { λ r. ⌜ Put (now (out .entry)) at (recordsFrom (now (nodes .entry)) link) r (now (out .exit)) ⌝ ∗
-        ⌜ Kept line (now (lines .entry)) (now (lines .exit)) ⌝ }
+    requires { ⌜ Reached (now nodes) link (endLine line place quantity) ⌝ ∗ ⌜ StandsAbove w (now nodes) link (now lines) ⌝ ∗ ⌜ Width w ⌝ ∗
+        ⌜ at + length (recordsFrom w (now nodes) link) ≤ length (now out) ⌝ }
+    ensures { λ r. ⌜ Put (now (out .entry)) at (recordsFrom w (now (nodes .entry)) link) r (now (out .exit)) ⌝ ∗
+        ⌜ Kept (line * lineBytes w) (now (lines .entry)) (now (lines .exit)) ⌝ }
 {
-    if link == 0 {
-        return at;
-    }
     let above = EndLine {
         at: line,
         place: place,
         quantity: quantity,
     };
-    let end = with_unit(above, label_at(nodes, link));
-    let own = put_node(out, at, nodes, link, lines, above, end);
-    let c = child_at(nodes, link);
-    let below = put_kits(out, own, nodes, c, lines, end.at, end.place, end.quantity);
-    let next = next_at(nodes, link);
-    put_kits(out, below, nodes, next, lines, line, place, quantity)
+    let mut i = link;
+    let mut to = at;
+    while i != 0 {
+        let end = with_unit(above, label_at(nodes, i));
+        let own = put_node(out, to, nodes, i, lines, above, end, w);
+        let child = child_at(nodes, i);
+        to = put_kits(
+            out,
+            own,
+            nodes,
+            child,
+            lines,
+            end.at,
+            end.place,
+            end.quantity,
+            w,
+        );
+        i = next_at(nodes, i);
+    }
+    to
 }
 
 // The numbers of n slots.
@@ -200,43 +215,45 @@ fn numbers_size(reg: &[u8], n: usize) -> usize
 }
 
 // How many bytes a node's own record takes: with the root's line, all lines but the last take as many as without it all do.
-fn own_size(nodes: &[u16], i: usize, end: EndLine) -> usize
-    requires { ⌜ Shape mostPlace (now nodes) ⌝ ∗ ⌜ Live (now nodes) i ⌝ ∗ ⌜ end ≡ endOf (nodeRow (now nodes) i) ⌝ }
-    ensures { λ r. ⌜ r ≡ length (ownRecord (now (nodes .entry)) i) ⌝ }
+fn own_size(nodes: &[u16], i: usize, end: EndLine, w: usize) -> usize
+    requires { ⌜ Shape mostPlace (now nodes) ⌝ ∗ ⌜ Live (now nodes) i ⌝ ∗ ⌜ end ≡ endOf (nodeRow (now nodes) i) ⌝ ∗ ⌜ Width w ⌝ }
+    ensures { λ r. ⌜ r ≡ length (ownRecord w (now (nodes .entry)) i) ⌝ }
 {
     if tag_at(nodes, i) == 0 {
         return 0;
     }
-    LINES_AT + end.at
+    LINES_AT + end.at * (w + QUANTITY_BYTES)
 }
 
 // How many bytes the records of the kits on the chain that starts at a link, and below it, take.
-fn kits_size(nodes: &[u16], link: usize, line: usize, place: u16, quantity: u16) -> usize
-    requires { ⌜ Reached (now nodes) link (endLine line place quantity) ⌝ ∗ ⌜ length (recordsFrom (now nodes) link) ≤ mostRecord * mostNodes ⌝ }
-    ensures { λ r. ⌜ r ≡ length (recordsFrom (now (nodes .entry)) link) ⌝ }
+fn kits_size(nodes: &[u16], link: usize, line: usize, place: u16, quantity: u16, w: usize) -> usize
+    requires { ⌜ Reached (now nodes) link (endLine line place quantity) ⌝ ∗ ⌜ Width w ⌝ ∗ ⌜ length (recordsFrom w (now nodes) link) ≤ mostRecord * mostNodes ⌝ }
+    ensures { λ r. ⌜ r ≡ length (recordsFrom w (now (nodes .entry)) link) ⌝ }
 {
-    if link == 0 {
-        return 0;
-    }
     let above = EndLine {
         at: line,
         place: place,
         quantity: quantity,
     };
-    let end = with_unit(above, label_at(nodes, link));
-    let own = own_size(nodes, link, end);
-    let c = child_at(nodes, link);
-    let below = own + kits_size(nodes, c, end.at, end.place, end.quantity);
-    below + kits_size(nodes, next_at(nodes, link), line, place, quantity)
+    let mut i = link;
+    let mut size = 0;
+    while i != 0 {
+        let end = with_unit(above, label_at(nodes, i));
+        let own = size + own_size(nodes, i, end, w);
+        let child = child_at(nodes, i);
+        size = own + kits_size(nodes, child, end.at, end.place, end.quantity, w);
+        i = next_at(nodes, i);
+    }
+    size
 }
 
 // How many bytes all kit records take.
-fn records_size(nodes: &[u16]) -> usize
-    requires { ⌜ Shape mostPlace (now nodes) ⌝ }
-    ensures { λ r. ⌜ r ≡ length (recordsAt (now (nodes .entry)) (walkAll (now (nodes .entry)))) ⌝ ∗ ⌜ r ≤ mostRecord * mostNodes ⌝ }
+fn records_size(nodes: &[u16], w: usize) -> usize
+    requires { ⌜ Shape mostPlace (now nodes) ⌝ ∗ ⌜ Width w ⌝ }
+    ensures { λ r. ⌜ r ≡ length (recordsAt w (now (nodes .entry)) (walkAll (now (nodes .entry)))) ⌝ ∗ ⌜ r ≤ mostRecord * mostNodes ⌝ }
 {
     let none = EndLine::none();
-    let own = own_size(nodes, 0, none);
+    let own = own_size(nodes, 0, none, w);
     own
         + kits_size(
             nodes,
@@ -244,6 +261,7 @@ fn records_size(nodes: &[u16]) -> usize
             none.at,
             none.place,
             none.quantity,
+            w,
         )
 }
 
@@ -254,17 +272,17 @@ fn put_head(out: &mut [u8], parts: u16) -> usize
 {
     let mark = Sheet::MARK;
     copy_in(out, 0, &mark);
-    let at = Sheet::VERSION_AT + put_two(&mut out[Sheet::VERSION_AT..], Sheet::VERSION);
+    let at = Sheet::VERSION_AT + put_two(&mut out[Sheet::VERSION_AT..], Sheet::version(parts));
     at + put_two(&mut out[at..], parts)
 }
 
 // All kit records: the root's own, of a row without lines, and those of all that is below it.
-fn put_from_root(out: &mut [u8], nodes: &[u16], lines: &mut [u8]) -> usize
-    requires { ⌜ Shape mostPlace (now nodes) ⌝ ∗ ⌜ length (now lines) ≡ rowBytes ⌝ ∗
-        ⌜ length (recordsAt (now nodes) (walkAll (now nodes))) ≤ length (now out) ⌝ }
-    ensures { λ r. ⌜ Put (now (out .entry)) 0 (recordsAt (now (nodes .entry)) (walkAll (now (nodes .entry)))) r (now (out .exit)) ⌝ }
+fn put_from_root(out: &mut [u8], nodes: &[u16], lines: &mut [u8], w: usize) -> usize
+    requires { ⌜ Shape mostPlace (now nodes) ⌝ ∗ ⌜ Width w ⌝ ∗ ⌜ length (now lines) ≡ rowBytes ⌝ ∗
+        ⌜ length (recordsAt w (now nodes) (walkAll (now nodes))) ≤ length (now out) ⌝ }
+    ensures { λ r. ⌜ Put (now (out .entry)) 0 (recordsAt w (now (nodes .entry)) (walkAll (now (nodes .entry)))) r (now (out .exit)) ⌝ }
 {
-    let own = put_own(out, 0, nodes, 0, &lines[0..0]);
+    let own = put_own(out, 0, nodes, 0, &lines[0..0], w);
     let c = child_at(nodes, 0);
     let none = EndLine::none();
     put_kits(
@@ -276,16 +294,17 @@ fn put_from_root(out: &mut [u8], nodes: &[u16], lines: &mut [u8]) -> usize
         none.at,
         none.place,
         none.quantity,
+        w,
     )
 }
 
 // All kit records, with room for the lines of a row.
-fn put_records(out: &mut [u8], nodes: &[u16]) -> usize
-    requires { ⌜ Shape mostPlace (now nodes) ⌝ ∗ ⌜ length (recordsAt (now nodes) (walkAll (now nodes))) ≤ length (now out) ⌝ }
-    ensures { λ r. ⌜ Put (now (out .entry)) 0 (recordsAt (now (nodes .entry)) (walkAll (now (nodes .entry)))) r (now (out .exit)) ⌝ }
+fn put_records(out: &mut [u8], nodes: &[u16], w: usize) -> usize
+    requires { ⌜ Shape mostPlace (now nodes) ⌝ ∗ ⌜ Width w ⌝ ∗ ⌜ length (recordsAt w (now nodes) (walkAll (now nodes))) ≤ length (now out) ⌝ }
+    ensures { λ r. ⌜ Put (now (out .entry)) 0 (recordsAt w (now (nodes .entry)) (walkAll (now (nodes .entry)))) r (now (out .exit)) ⌝ }
 {
     let mut lines = [0; ROW_BYTES];
-    put_from_root(out, nodes, &mut lines)
+    put_from_root(out, nodes, &mut lines, w)
 }
 
 // All items of a sheet, one behind the other.
@@ -297,7 +316,7 @@ fn put_items(out: &mut [u8], reg: &[u8], nodes: &[u16], sheet: Sheet) -> usize
     let numbers = put_head(out, sheet.parts);
     let count = numbers + put_numbers(&mut out[numbers..], reg, wide16(sheet.parts));
     let records = count + put_two(&mut out[count..], sheet.kits);
-    records + put_records(&mut out[records..], nodes)
+    records + put_records(&mut out[records..], nodes, place_bytes(sheet.parts))
 }
 
 // Writes the sheet of a sound register and node table: bytes written, or the bytes needed in all where the output has no room.
@@ -306,7 +325,10 @@ pub fn write_sheet(reg: &[u8], nodes: &[u16], out: &mut [u8]) -> Answer
     ensures { λ r. ⌜ Promise (writingOf (contentsOf (now (reg .entry)) (now (nodes .entry))) (now (out .entry))) (now (out .entry)) (reply r) (now (out .exit)) ⌝ }
 {
     let parts = count_parts(reg);
-    let need = Sheet::HEAD + numbers_size(reg, parts) + TWO_BYTES + records_size(nodes);
+    let need = Sheet::HEAD
+        + numbers_size(reg, parts)
+        + TWO_BYTES
+        + records_size(nodes, place_bytes(parts as u16));
     if out.len() < need {
         return Answer::NoRoom(need);
     }

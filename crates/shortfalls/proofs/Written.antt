@@ -1,8 +1,10 @@
 -- Words set down in two outputs in step.
-use mathlib.Core.Path.{_≡_, ap, sym}
+use mathlib.Core.Path.{_≡_, refl, ap, sym}
 use mathlib.Core.List.{List, [], _++_, map}
 use Prim.Native.Nat.{ℕ, _+_}
-use lib.ListN.{set}
+use native.Mathlib.Omega.{arith}
+use lib.ListN.{length, length-map, set}
+use Rattle.ground.specs.Laid.{laid}
 use Rattle.ground.proofs.Laws.{map-append}
 use Rattle.ground.proofs.Put.{put-none, put-put, put-same}
 use Rattle.questions.specs.Inner.{ifTag, someTag}
@@ -41,3 +43,10 @@ module _ (f g : ℕ → ℕ) where
 
   pub nodes-none : (o p : List ℕ) (n : ℕ) {is : List ℕ} → is ≡ [] → PutBoth o p n (map f is) (map g is) n o p
   nodes-none o p n {is} e = both-none o p n (map f is) (map g is) (ap (map f) e) (ap (map g) e)
+
+  pub nodes-down : (o p : List ℕ) (n : ℕ) (is : List ℕ) →
+      PutBoth o p n (map f is) (map g is) (n + length is) (laid o n (map f is)) (laid p n (map g is))
+  nodes-down o p n is = record {
+    one = record { behind = omega (arith, length-map is f); lies = refl };
+    two = record { behind = omega (arith, length-map is g); lies = refl };
+  }

@@ -17,7 +17,7 @@ use answers::Answer;
 use ground::least;
 use kits::MOST_UNITS;
 use kits::PLACES;
-use kits::quantities_of;
+use kits::set_quantities;
 use nodes::child_at;
 use nodes::label_at;
 use nodes::next_at;
@@ -81,7 +81,7 @@ fn put_both(tags: &mut [u16], shorts: &mut [u16], n: usize, t: u16, s: u16) -> u
 }
 
 // Sets down the kits with a shortfall of at most d on the chain that starts at a link, and below it, from n on; returns the place of the next.
-// A branch is left as soon as its shortfall passes d.
+// A branch is left as soon as its shortfall passes d. Siblings are passed in a loop: it calls itself on a child alone.
 fn list_almost(
     nodes: &[u16],
     bin: &[u16; PLACES],
@@ -95,17 +95,21 @@ fn list_almost(
     requires { ⌜ AtLink (now nodes) (now bin) d at p ⌝ ∗ ⌜ n + length (foundFrom (almost (now bin) d) (now nodes) at) ≤ mostNodes ⌝ }
     ensures { λ r. ⌜ PutFrom (now (bin .entry)) d (now (nodes .entry)) at (now (tags .entry)) (now (shorts .entry)) n r (now (tags .exit)) (now (shorts .exit)) ⌝ }
 {
-    if at == 0 {
-        return n;
+    let mut link = at;
+    let mut k = n;
+    while link != 0 {
+        let here = link;
+        let then = pass(bin, p, label_at(nodes, here));
+        link = next_at(nodes, here);
+        if then.short <= d {
+            k = put_both(tags, shorts, k, tag_at(nodes, here), then.short);
+            let child = child_at(nodes, here);
+            if child != 0 {
+                k = list_almost(nodes, bin, tags, shorts, k, d, child, then);
+            }
+        }
     }
-    let then = pass(bin, p, label_at(nodes, at));
-    let next = next_at(nodes, at);
-    if d < then.short {
-        return list_almost(nodes, bin, tags, shorts, n, d, next, p);
-    }
-    let m = put_both(tags, shorts, n, tag_at(nodes, at), then.short);
-    let k = list_almost(nodes, bin, tags, shorts, m, d, child_at(nodes, at), then);
-    list_almost(nodes, bin, tags, shorts, k, d, next, p)
+    k
 }
 
 // Sets down all kits with a shortfall of at most d, as far as there is room; returns how many they are.
@@ -141,7 +145,8 @@ pub fn all_almost(
     ensures { λ r. ⌜ SetsBoth (listAlmost [] d (now (bin .entry)) (now (nodes .entry))) (now (tags .entry)) (now (shorts .entry)) (reply r) (now (tags .exit))
         (now (shorts .exit)) ⌝ }
 {
-    let amounts = quantities_of(bin);
+    let mut amounts = [0; PLACES];
+    set_quantities(&mut amounts, bin);
     let room = least(tags.len(), shorts.len());
     if kit_count(nodes) <= room {
         return Answer::Done(set_almost(nodes, &amounts, d, tags, shorts));

@@ -31,27 +31,27 @@ append-requires c κs =
     let start : tie.Start = search in
     agrees-own (start .pre .1) (at-agree .agree .ensures)
 
-sub-count-in : tie.Need-sub-count-in
-sub-count-in c = let at-append : tie.After-append = search in omega (arith, at-append .append .ensures .1 .packed .some)
+sub-move-tallies : tie.Need-sub-move-tallies
+sub-move-tallies c = let at-append : tie.After-append = search in omega (arith, at-append .append .ensures .1 .packed .some)
 
-count-in-requires : tie.Need-count-in-requires
-count-in-requires c κs =
+move-tallies-requires : tie.Need-move-tallies-requires
+move-tallies-requires c κs =
     let at-append : tie.After-append = search in
     let start : tie.Start = search in
     last-counts (start .args .t) (start .pre .1) (at-append .append .ensures .0) (at-append .append .ensures .1)
 
 same-length : tie.Need-same-length
 same-length c =
-    let at-count-in : tie.After-count-in = search in
+    let at-move-tallies : tie.After-move-tallies = search in
     let at-append : tie.After-append = search in
-    at-count-in .count-in .kept .0 ∙ at-append .append .kept .0
+    at-move-tallies .move-tallies .kept .0 ∙ at-append .append .kept .0
 
 returns : tie.Need-returns
 returns c =
-    let at-count-in : tie.After-count-in = search in
+    let at-move-tallies : tie.After-move-tallies = search in
     let at-append : tie.After-append = search in
     let start : tie.Start = search in
-    last-counted (start .args .t) (start .pre .1) (at-append .append .ensures .0) (at-append .append .ensures .1) (at-count-in .count-in .ensures)
+    last-counted (start .args .t) (start .pre .1) (at-append .append .ensures .0) (at-append .append .ensures .1) (at-move-tallies .move-tallies .ensures)
 
 pub append-row-spec : {M : Type 1} → statement M
 append-row-spec =
@@ -61,7 +61,7 @@ append-row-spec =
     array-share-prefix-places
     slice-aggregate-append
     append-requires
-    sub-count-in
-    count-in-requires
+    sub-move-tallies
+    move-tallies-requires
     same-length
     returns)

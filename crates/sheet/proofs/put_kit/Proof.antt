@@ -5,7 +5,7 @@ use native.Mathlib.Omega.{arith}
 use lib.ListN.{length, set, length-set}
 use Rattle.ground.proofs.Put.{Rest, rest-last, put-length}
 use Rattle.ground.specs.Laid.{Put}
-use Rattle.sheet.specs.Sheet.{placeBytes, lineBytes, countAt, linesAt}
+use Rattle.sheet.specs.Sheet.{lineBytes, countAt, linesAt}
 use Rattle.sheet.specs.Inner.{recordBytes}
 use Rattle.sheet.proofs.Lines.{kit-going, record-long}
 use borrow.Author.Needs.{needs}
@@ -14,16 +14,17 @@ use Rattle.sheet.proofs.put_kit.Tie as tie
 
 going : (c : tie.After-put-two) →
     let start : tie.Start = search in
-    Rest (start .args .out .now) 0 (recordBytes (start .args .tag) (start .args .lines .now))
-    (set (c .put-two .last .0) countAt (length (start .args .lines .now) / lineBytes placeBytes)) linesAt (start .args .lines .now)
+    Rest (start .args .out .now) 0 (recordBytes (start .args .w) (start .args .tag) (start .args .lines .now))
+    (set (c .put-two .last .0) countAt (length (start .args .lines .now) / lineBytes (start .args .w))) linesAt (start .args .lines .now)
 going c =
     let start : tie.Start = search in
-    kit-going (start .args .lines .now) (start .args .tag) (length (start .args .lines .now) / lineBytes placeBytes) (c .put-two .ensures) refl
-    (start .pre .1)
+    let w = start .args .w in
+    let ls = start .args .lines .now in
+    kit-going w ls (start .args .tag) (length ls / lineBytes w) (c .put-two .ensures) refl (start .pre .0 .1)
 
 all : (c : tie.After-copy-in) →
     let start : tie.Start = search in
-    Put (start .args .out .now) 0 (recordBytes (start .args .tag) (start .args .lines .now)) (linesAt + length (start .args .lines .now))
+    Put (start .args .out .now) 0 (recordBytes (start .args .w) (start .args .tag) (start .args .lines .now)) (linesAt + length (start .args .lines .now))
     (c .copy-in .last .0)
 all c =
     let at-put-two : tie.After-put-two = search in
@@ -32,7 +33,13 @@ all c =
 put-two-requires : tie.Need-put-two-requires
 put-two-requires c κs =
     let start : tie.Start = search in
-    omega (arith, start .pre .1, record-long (start .args .tag) (start .args .lines .now))
+    omega (arith, start .pre .0 .1, record-long (start .args .w) (start .args .tag) (start .args .lines .now))
+
+add-out : tie.Need-add-out
+add-out c = search needs
+
+div-out : tie.Need-div-out
+div-out c = search needs
 
 cast-out : tie.Need-cast-out
 cast-out c = search needs
@@ -65,6 +72,8 @@ put-kit-spec =
     tie.close
     (tie.spec
     put-two-requires
+    add-out
+    div-out
     cast-out
     slice-write-out
     copy-in-requires

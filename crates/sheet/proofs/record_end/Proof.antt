@@ -14,7 +14,7 @@ sub-if1 c = search needs
 returns : tie.Need-returns
 returns c =
     let start : tie.Start = search in
-    end-cut (start .args .s .now) (start .args .at) (start .pre) (omega (arith, c .if1 .taken))
+    end-cut (start .args .w) (start .args .s .now) (start .args .at) (start .pre .0) (omega (arith, c .if1 .taken))
 
 lines-size-requires : tie.Need-lines-size-requires
 lines-size-requires c κs = search needs
@@ -28,7 +28,7 @@ sub-if2 c = search needs
 returns-2 : tie.Need-returns-2
 returns-2 c =
     let start : tie.Start = search in
-    end-cut (start .args .s .now) (start .args .at) (start .pre) (omega (arith, c .if2 .taken, c .before .lines-size .ensures .0))
+    end-cut (start .args .w) (start .args .s .now) (start .args .at) (start .pre .0) (omega (arith, c .if2 .taken, c .before .lines-size .ensures .0))
 
 add-result : tie.Need-add-result
 add-result c = search needs
@@ -36,8 +36,8 @@ add-result c = search needs
 returns-3 : tie.Need-returns-3
 returns-3 c =
     let start : tie.Start = search in
-    ap (λ (n : ℕ). start .args .at + (linesAt + n)) (c .before .lines-size .ensures .0) ∙ end-whole (start .args .s .now) (start .args .at)
-    (omega (arith, c .if2 .left, c .before .lines-size .ensures .0, start .pre))
+    ap (λ (n : ℕ). start .args .at + (linesAt + n)) (c .before .lines-size .ensures .0) ∙ end-whole (start .args .w) (start .args .s .now) (start .args .at)
+    (omega (arith, c .if2 .left, c .before .lines-size .ensures .0, start .pre .0))
 
 pub record-end-spec : {M : Type 1} → statement M
 record-end-spec =

@@ -13,14 +13,14 @@ use Rattle.sheet.proofs.row_in.Tie as tie
 
 part : (c : tie.After-list-in) →
     let start : tie.Start = search in
-    take (c .before .lines-size .result - 0) (drop 0 (c .list-in .result)) ≡ listAt (start .args .s .now) (start .args .at)
+    take (c .before .list-words .result - 0) (drop 0 (c .list-in .result)) ≡ listAt (start .args .w) (start .args .s .now) (start .args .at)
 part c =
     let start : tie.Start = search in
-    let n = c .before .lines-size .ensures in
-    lent-list (start .args .s .now) (start .args .at) (start .pre .0) (n .0) (n .1) (c .list-in .ensures)
+    let n = c .before .list-words .ensures in
+    lent-list (start .args .w) (start .args .s .now) (start .args .at) (n .0) (n .1) (c .list-in .ensures)
 
-lines-size-requires : tie.Need-lines-size-requires
-lines-size-requires c κs = search needs
+list-words-requires : tie.Need-list-words-requires
+list-words-requires c κs = search needs
 
 list-in-requires : tie.Need-list-in-requires
 list-in-requires c κs = search needs
@@ -37,7 +37,7 @@ part-row-of-end c = search needs
 row-of-requires : tie.Need-row-of-requires
 row-of-requires c κs =
     let start : tie.Start = search in
-    rw (part (c .before .before)) (start .pre .1)
+    rw (part (c .before .before)) (start .pre .1 .1)
 
 returns : tie.Need-returns
 returns c =
@@ -47,4 +47,4 @@ returns c =
 pub row-in-spec : {M : Type 1} → statement M
 row-in-spec =
     tie.close
-    (tie.spec lines-size-requires list-in-requires sub-row-of part-row-of-start part-row-of-end row-of-requires returns)
+    (tie.spec list-words-requires list-in-requires sub-row-of part-row-of-start part-row-of-end row-of-requires returns)

@@ -13,7 +13,6 @@ use Rattle.kits.specs.Inner.{unitsIn, fixedRow}
 use Rattle.kits.specs.declared.Row.{Row}
 use Rattle.kits.proofs.Rows.{agreed-right, row-back}
 use Rattle.sheet.specs.Bytes.{fromBytes}
-use Rattle.sheet.specs.Sheet.{placeBytes}
 use Rattle.sheet.specs.Reading.{newKit, recordSize}
 use Rattle.sheet.specs.Inner.{recordAt, listAt, WholeAt}
 use Rattle.sheet.proofs.Numbers.{bytes-drop}
@@ -27,36 +26,43 @@ use Rattle.sheet_judge.proofs.judge_records.Statement.{statement}
 use Rattle.sheet_judge.proofs.judge_records.Tie as tie
 
 abbrev Inv-loop : tie.InvT-loop
-Inv-loop s from sheet parts n tags₀ prev₀ nodes₀ at₀ k₀ tags prev nodes at k =
-    (k ≤ n) × (n < 65536) × (n ≡ sheet .kits) × (parts ≡ sheet .parts) × Judging s from (sheet .parts) (sheet .kits) tags prev
+Inv-loop s from sheet parts w n tags₀ prev₀ nodes₀ at₀ k₀ tags prev nodes at k =
+    (k ≤ n) × (n < 65536) × (n ≡ sheet .kits) × (parts ≡ sheet .parts) × Judging w s from (sheet .parts) (sheet .kits) tags prev
     nodes at k
 
 abbrev μ-loop : tie.MeasureT-loop
-μ-loop s from sheet parts n tags₀ prev₀ nodes₀ at₀ k₀ tags prev nodes at k = n - k
+μ-loop s from sheet parts w n tags₀ prev₀ nodes₀ at₀ k₀ tags prev nodes at k = n - k
 
 -- a record that is whole
 moved : (c : tie.Else1 Inv-loop μ-loop) →
     let at-loop : tie.At-loop Inv-loop μ-loop = search in
+    let at-place-bytes : tie.After-place-bytes Inv-loop μ-loop = search in
+    let w = at-place-bytes .place-bytes .result in
     let start : tie.Start Inv-loop μ-loop = search in
-    WholeAt (start .args .s .now) (at-loop .loop .at)
-    × (c .before .record-end .result ≡ at-loop .loop .at + recordSize placeBytes (drop (at-loop .loop .at) (start .args .s .now)))
+    WholeAt w (start .args .s .now) (at-loop .loop .at)
+    × (c .before .record-end .result ≡ at-loop .loop .at + recordSize w (drop (at-loop .loop .at) (start .args .s .now)))
 moved c =
     let at-loop : tie.At-loop Inv-loop μ-loop = search in
+    let at-place-bytes : tie.After-place-bytes Inv-loop μ-loop = search in
+    let w = at-place-bytes .place-bytes .result in
     let start : tie.Start Inv-loop μ-loop = search in
-    end-moved (start .args .s .now) (at-loop .loop .at) (c .before .record-end .result) (c .before .record-end .ensures)
+    end-moved w (start .args .s .now) (at-loop .loop .at) (c .before .record-end .result) (c .before .record-end .ensures)
     (at-loop .loop .inv .4 .inside) (c .if1 .left)
 
 -- the words that are lent are the record's list
 part : (c : tie.After-list-in Inv-loop μ-loop) →
     let at-loop : tie.At-loop Inv-loop μ-loop = search in
+    let at-place-bytes : tie.After-place-bytes Inv-loop μ-loop = search in
+    let w = at-place-bytes .place-bytes .result in
     let start : tie.Start Inv-loop μ-loop = search in
-    take (c .before .lines-size .result - 0) (drop 0 (c .list-in .result)) ≡ listAt (start .args .s .now) (at-loop .loop .at)
+    take (c .before .list-words .result - 0) (drop 0 (c .list-in .result)) ≡ listAt w (start .args .s .now) (at-loop .loop .at)
 part c =
-    let else1 : tie.Else1 Inv-loop μ-loop = search in
     let at-loop : tie.At-loop Inv-loop μ-loop = search in
+    let at-place-bytes : tie.After-place-bytes Inv-loop μ-loop = search in
+    let w = at-place-bytes .place-bytes .result in
     let start : tie.Start Inv-loop μ-loop = search in
-    let n = c .before .lines-size .ensures in
-    lent-list (start .args .s .now) (at-loop .loop .at) (moved else1 .0) (n .0) (n .1) (c .list-in .ensures)
+    let n = c .before .list-words .ensures in
+    lent-list w (start .args .s .now) (at-loop .loop .at) (n .0) (n .1) (c .list-in .ensures)
 
 -- its tag, as it is read
 tag : (c : tie.After-wide162 Inv-loop μ-loop) →
@@ -68,29 +74,34 @@ tag c = c .wide162 .ensures .0 ∙ c .before .two-at .ensures
 -- what makes it a new kit
 asked : (c : tie.After-wide162 Inv-loop μ-loop) →
     let at-loop : tie.At-loop Inv-loop μ-loop = search in
+    let at-place-bytes : tie.After-place-bytes Inv-loop μ-loop = search in
+    let w = at-place-bytes .place-bytes .result in
     let start : tie.Start Inv-loop μ-loop = search in
-    let l = listAt (start .args .s .now) (at-loop .loop .at) in
-    newKit placeBytes (start .args .sheet .parts) (at-loop .loop .inv .4 .seen) (recordAt (start .args .s .now) (at-loop .loop .at))
+    let l = listAt w (start .args .s .now) (at-loop .loop .at) in
+    newKit w (start .args .sheet .parts) (at-loop .loop .inv .4 .seen) (recordAt w (start .args .s .now) (at-loop .loop .at))
     ≡ ((newTag (at-loop .loop .tags) (c .wide162 .result) && goodLines (start .args .sheet .parts) l)
     && (isZero (at-loop .loop .k) || before (unitsIn (at-loop .loop .prev)) (units l)))
 asked c =
-    let else1 : tie.Else1 Inv-loop μ-loop = search in
     let at-loop : tie.At-loop Inv-loop μ-loop = search in
+    let at-place-bytes : tie.After-place-bytes Inv-loop μ-loop = search in
+    let w = at-place-bytes .place-bytes .result in
     let start : tie.Start Inv-loop μ-loop = search in
-    new-is (start .args .s .now) (at-loop .loop .at) (moved else1 .0) (start .args .sheet .parts) (at-loop .loop .inv .4 .seen)
+    new-is w (start .args .s .now) (at-loop .loop .at) (start .args .sheet .parts) (at-loop .loop .inv .4 .seen)
     (at-loop .loop .tags) (c .wide162 .result) (at-loop .loop .inv .4 .tags) (tag c) (c .wide162 .ensures .1) ∙ ap
     (λ (b : Bool). (newTag (at-loop .loop .tags) (c .wide162 .result)
-    && goodLines (start .args .sheet .parts) (listAt (start .args .s .now) (at-loop .loop .at))) && b)
+    && goodLines (start .args .sheet .parts) (listAt w (start .args .s .now) (at-loop .loop .at))) && b)
     (latest-follows (at-loop .loop .prev) (at-loop .loop .k) (at-loop .loop .inv .4 .seen)
-    (units (listAt (start .args .s .now) (at-loop .loop .at))) (at-loop .loop .inv .4 .latest))
+    (units (listAt w (start .args .s .now) (at-loop .loop .at))) (at-loop .loop .inv .4 .latest))
 
 -- its tag and its lines, as they are judged
 alone : (c : tie.After-record-good Inv-loop μ-loop) →
     let at-wide162 : tie.After-wide162 Inv-loop μ-loop = search in
     let at-loop : tie.At-loop Inv-loop μ-loop = search in
+    let at-place-bytes : tie.After-place-bytes Inv-loop μ-loop = search in
+    let w = at-place-bytes .place-bytes .result in
     let start : tie.Start Inv-loop μ-loop = search in
     c .record-good .result ≡ (newTag (at-loop .loop .tags) (at-wide162 .wide162 .result)
-    && goodLines (start .args .sheet .parts) (listAt (start .args .s .now) (at-loop .loop .at)))
+    && goodLines (start .args .sheet .parts) (listAt w (start .args .s .now) (at-loop .loop .at)))
 alone c =
     let at-list-in : tie.After-list-in Inv-loop μ-loop = search in
     let at-wide162 : tie.After-wide162 Inv-loop μ-loop = search in
@@ -102,22 +113,28 @@ alone c =
 
 short : (c : tie.Else2 Inv-loop μ-loop) →
     let at-loop : tie.At-loop Inv-loop μ-loop = search in
+    let at-place-bytes : tie.After-place-bytes Inv-loop μ-loop = search in
+    let w = at-place-bytes .place-bytes .result in
     let start : tie.Start Inv-loop μ-loop = search in
-    length (units (listAt (start .args .s .now) (at-loop .loop .at))) ≤ mostUnits
+    length (units (listAt w (start .args .s .now) (at-loop .loop .at))) ≤ mostUnits
 short c =
     let at-record-good : tie.After-record-good Inv-loop μ-loop = search in
     let at-wide162 : tie.After-wide162 Inv-loop μ-loop = search in
     let at-loop : tie.At-loop Inv-loop μ-loop = search in
+    let at-place-bytes : tie.After-place-bytes Inv-loop μ-loop = search in
+    let w = at-place-bytes .place-bytes .result in
     let start : tie.Start Inv-loop μ-loop = search in
-    let l = listAt (start .args .s .now) (at-loop .loop .at) in
+    let l = listAt w (start .args .s .now) (at-loop .loop .at) in
     lines-short (start .args .sheet .parts) l
     (and-right (newTag (at-loop .loop .tags) (at-wide162 .wide162 .result)) (goodLines (start .args .sheet .parts) l)
     (sym (alone at-record-good) ∙ not-false _ (c .if2 .left)))
 
 row-is : (c : tie.After-row-of Inv-loop μ-loop) →
     let at-loop : tie.At-loop Inv-loop μ-loop = search in
+    let at-place-bytes : tie.After-place-bytes Inv-loop μ-loop = search in
+    let w = at-place-bytes .place-bytes .result in
     let start : tie.Start Inv-loop μ-loop = search in
-    c .row-of .result ≡ fixedRow (units (listAt (start .args .s .now) (at-loop .loop .at)))
+    c .row-of .result ≡ fixedRow (units (listAt w (start .args .s .now) (at-loop .loop .at)))
 row-is c =
     let at-list-in : tie.After-list-in Inv-loop μ-loop = search in
     c .row-of .ensures ∙ ap (λ (l : List ℕ). fixedRow (units l)) (part at-list-in)
@@ -129,12 +146,16 @@ fits c =
 
 back : (c : tie.After-row-of Inv-loop μ-loop) →
     let at-loop : tie.At-loop Inv-loop μ-loop = search in
+    let at-place-bytes : tie.After-place-bytes Inv-loop μ-loop = search in
+    let w = at-place-bytes .place-bytes .result in
     let start : tie.Start Inv-loop μ-loop = search in
-    unitsIn (c .row-of .result) ≡ units (listAt (start .args .s .now) (at-loop .loop .at))
+    unitsIn (c .row-of .result) ≡ units (listAt w (start .args .s .now) (at-loop .loop .at))
 back c =
     let at-loop : tie.At-loop Inv-loop μ-loop = search in
+    let at-place-bytes : tie.After-place-bytes Inv-loop μ-loop = search in
+    let w = at-place-bytes .place-bytes .result in
     let start : tie.Start Inv-loop μ-loop = search in
-    rw (row-is c) (row-back (units (listAt (start .args .s .now) (at-loop .loop .at))))
+    rw (row-is c) (row-back (units (listAt w (start .args .s .now) (at-loop .loop .at))))
 
 long : (c : tie.After-row-of Inv-loop μ-loop) → length (unitsIn (c .row-of .result)) ≡ c .row-of .result .len
 long c = ap length (back c) ∙ sym (ap (λ (r : Row). r .len) (row-is c))
@@ -142,9 +163,11 @@ long c = ap length (back c) ∙ sym (ap (λ (r : Row). r .len) (row-is c))
 -- its row's place in the order
 told : (c : tie.After-comes-after Inv-loop μ-loop) →
     let at-loop : tie.At-loop Inv-loop μ-loop = search in
+    let at-place-bytes : tie.After-place-bytes Inv-loop μ-loop = search in
+    let w = at-place-bytes .place-bytes .result in
     let start : tie.Start Inv-loop μ-loop = search in
     c .comes-after .result ≡ (isZero (at-loop .loop .k)
-    || before (unitsIn (at-loop .loop .prev)) (units (listAt (start .args .s .now) (at-loop .loop .at))))
+    || before (unitsIn (at-loop .loop .prev)) (units (listAt w (start .args .s .now) (at-loop .loop .at))))
 told c =
     let at-row-of : tie.After-row-of Inv-loop μ-loop = search in
     let at-wide162 : tie.After-wide162 Inv-loop μ-loop = search in
@@ -153,8 +176,10 @@ told c =
 
 good : (c : tie.Else3 Inv-loop μ-loop) →
     let at-loop : tie.At-loop Inv-loop μ-loop = search in
+    let at-place-bytes : tie.After-place-bytes Inv-loop μ-loop = search in
+    let w = at-place-bytes .place-bytes .result in
     let start : tie.Start Inv-loop μ-loop = search in
-    newKit placeBytes (start .args .sheet .parts) (at-loop .loop .inv .4 .seen) (recordAt (start .args .s .now) (at-loop .loop .at)) ≡ true
+    newKit w (start .args .sheet .parts) (at-loop .loop .inv .4 .seen) (recordAt w (start .args .s .now) (at-loop .loop .at)) ≡ true
 good c =
     let at-comes-after : tie.After-comes-after Inv-loop μ-loop = search in
     let else2 : tie.Else2 Inv-loop μ-loop = search in
@@ -162,6 +187,9 @@ good c =
     let at-wide162 : tie.After-wide162 Inv-loop μ-loop = search in
     asked at-wide162 ∙ ap₂ _&&_ (sym (alone at-record-good) ∙ not-false _ (else2 .if2 .left))
     (sym (told at-comes-after) ∙ not-false _ (c .if3 .left))
+
+place-bytes-requires : tie.Need-place-bytes-requires Inv-loop μ-loop
+place-bytes-requires c κs = tt
 
 wide16-requires : tie.Need-wide16-requires Inv-loop μ-loop
 wide16-requires c κs = tt
@@ -171,26 +199,31 @@ no-row-requires c κs = tt
 
 loop-holds : tie.Need-loop-holds Inv-loop μ-loop
 loop-holds c =
+    let at-place-bytes : tie.After-place-bytes Inv-loop μ-loop = search in
+    let w = at-place-bytes .place-bytes .result in
     let start : tie.Start Inv-loop μ-loop = search in (
       omega arith,
       c .before .wide16 .ensures .1,
       c .before .wide16 .ensures .0,
       refl,
-      judging-start (start .args .s .now) (start .args .from)
-          (start .args .sheet .parts) (start .args .sheet .kits) _ _ (start .pre) (λ t. getD-zeros 65536 t) refl (c .no-row .ensures .1)
-          (c .no-row .ensures .0),
+      judging-start w (start .args .s .now) (start .args .from) (start .args .sheet .parts) (start .args .sheet .kits) _ _
+          (at-place-bytes .place-bytes .ensures .0) (start .pre) (λ t. getD-zeros 65536 t) refl (c .no-row .ensures .1) (c .no-row .ensures .0),
     )
 
 record-end-requires : tie.Need-record-end-requires Inv-loop μ-loop
-record-end-requires c κs = c .before .loop .inv .4 .inside
+record-end-requires c κs =
+    let at-place-bytes : tie.After-place-bytes Inv-loop μ-loop = search in
+    (c .before .loop .inv .4 .inside, at-place-bytes .place-bytes .ensures .1)
 
 returns : tie.Need-returns Inv-loop μ-loop
 returns c =
     let at-loop : tie.At-loop Inv-loop μ-loop = search in
+    let at-place-bytes : tie.After-place-bytes Inv-loop μ-loop = search in
+    let w = at-place-bytes .place-bytes .result in
     let start : tie.Start Inv-loop μ-loop = search in
     λ ps l. judging-fault (at-loop .loop .inv .4) (omega (arith, at-loop .loop .inv .2))
-    (end-stays (start .args .s .now) (at-loop .loop .at) (c .before .record-end .result) (c .before .record-end .ensures)
-    (at-loop .loop .inv .4 .inside) (newKit placeBytes (start .args .sheet .parts) (at-loop .loop .inv .4 .seen)) (c .if1 .taken))
+    (end-stays w (start .args .s .now) (at-loop .loop .at) (c .before .record-end .result) (c .before .record-end .ensures)
+    (at-loop .loop .inv .4 .inside) (newKit w (start .args .sheet .parts) (at-loop .loop .inv .4 .seen)) (c .if1 .taken))
     ps
 
 two-at-requires : tie.Need-two-at-requires Inv-loop μ-loop
@@ -201,15 +234,16 @@ two-at-requires c κs =
 wide16-requires-2 : tie.Need-wide16-requires-2 Inv-loop μ-loop
 wide16-requires-2 c κs = tt
 
-lines-size-requires : tie.Need-lines-size-requires Inv-loop μ-loop
-lines-size-requires c κs =
+list-words-requires : tie.Need-list-words-requires Inv-loop μ-loop
+list-words-requires c κs =
     let else1 : tie.Else1 Inv-loop μ-loop = search in
     omega (arith, moved else1 .0)
 
 list-in-requires : tie.Need-list-in-requires Inv-loop μ-loop
 list-in-requires c κs =
     let else1 : tie.Else1 Inv-loop μ-loop = search in
-    moved else1 .0
+    let at-place-bytes : tie.After-place-bytes Inv-loop μ-loop = search in
+    (moved else1 .0, at-place-bytes .place-bytes .ensures .1)
 
 sub-record-good : tie.Need-sub-record-good Inv-loop μ-loop
 sub-record-good c = search needs
@@ -229,9 +263,11 @@ returns-2 : tie.Need-returns-2 Inv-loop μ-loop
 returns-2 c =
     let at-wide162 : tie.After-wide162 Inv-loop μ-loop = search in
     let at-loop : tie.At-loop Inv-loop μ-loop = search in
+    let at-place-bytes : tie.After-place-bytes Inv-loop μ-loop = search in
+    let w = at-place-bytes .place-bytes .result in
     let start : tie.Start Inv-loop μ-loop = search in
     λ ps l. judging-fault (at-loop .loop .inv .4) (omega (arith, at-loop .loop .inv .2))
-    (one-bad (recordSize placeBytes) (newKit placeBytes (start .args .sheet .parts) (at-loop .loop .inv .4 .seen))
+    (one-bad (recordSize w) (newKit w (start .args .sheet .parts) (at-loop .loop .inv .4 .seen))
     (drop (at-loop .loop .at) (start .args .s .now)) (at-loop .loop .at)
     (first-bad _ _ (asked at-wide162) (sym (alone (c .before)) ∙ not-true _ (c .if2 .taken)))) ps
 
@@ -259,10 +295,12 @@ returns-3 : tie.Need-returns-3 Inv-loop μ-loop
 returns-3 c =
     let at-wide162 : tie.After-wide162 Inv-loop μ-loop = search in
     let at-loop : tie.At-loop Inv-loop μ-loop = search in
+    let at-place-bytes : tie.After-place-bytes Inv-loop μ-loop = search in
+    let w = at-place-bytes .place-bytes .result in
     let start : tie.Start Inv-loop μ-loop = search in
-    let l = listAt (start .args .s .now) (at-loop .loop .at) in
+    let l = listAt w (start .args .s .now) (at-loop .loop .at) in
     λ ps many. judging-fault (at-loop .loop .inv .4) (omega (arith, at-loop .loop .inv .2))
-    (one-bad (recordSize placeBytes) (newKit placeBytes (start .args .sheet .parts) (at-loop .loop .inv .4 .seen))
+    (one-bad (recordSize w) (newKit w (start .args .sheet .parts) (at-loop .loop .inv .4 .seen))
     (drop (at-loop .loop .at) (start .args .s .now)) (at-loop .loop .at)
     (second-bad (newTag (at-loop .loop .tags) (at-wide162 .wide162 .result) && goodLines (start .args .sheet .parts) l)
     (isZero (at-loop .loop .k) || before (unitsIn (at-loop .loop .prev)) (units l)) (asked at-wide162)
@@ -348,6 +386,7 @@ judge-records-spec =
     (tie.spec
     Inv-loop
     μ-loop
+    place-bytes-requires
     wide16-requires
     no-row-requires
     loop-holds
@@ -355,7 +394,7 @@ judge-records-spec =
     returns
     two-at-requires
     wide16-requires-2
-    lines-size-requires
+    list-words-requires
     list-in-requires
     sub-record-good
     part-record-good-start

@@ -11,10 +11,10 @@ use Rattle.sheet_read.proofs.fill_nodes.Statement.{statement}
 use Rattle.sheet_read.proofs.fill_nodes.Tie as tie
 
 abbrev Inv-loop : tie.InvT-loop
-Inv-loop nodes₀ s from m prev₀ at₀ n₀ k₀ nodes prev at n k = (k ≤ m) × Filling s from m nodes₀ nodes prev at n k × (length nodes ≡ length nodes₀)
+Inv-loop nodes₀ s w from m prev₀ at₀ n₀ k₀ nodes prev at n k = (k ≤ m) × Filling w s from m nodes₀ nodes prev at n k × (length nodes ≡ length nodes₀)
 
 abbrev μ-loop : tie.MeasureT-loop
-μ-loop nodes₀ s from m prev₀ at₀ n₀ k₀ nodes prev at n k = m - k
+μ-loop nodes₀ s w from m prev₀ at₀ n₀ k₀ nodes prev at n k = m - k
 
 clear-nodes-requires : tie.Need-clear-nodes-requires Inv-loop μ-loop
 clear-nodes-requires c κs = tt
@@ -32,7 +32,7 @@ row-in-requires : tie.Need-row-in-requires Inv-loop μ-loop
 row-in-requires c κs =
     let at-loop : tie.At-loop Inv-loop μ-loop = search in
     let F = at-loop .loop .inv .1 in
-    (record-whole F (omega arith), units-short F (omega arith))
+    (record-whole F (omega arith), (F .width, units-short F (omega arith)))
 
 two-at-requires : tie.Need-two-at-requires Inv-loop μ-loop
 two-at-requires c κs =
@@ -50,7 +50,8 @@ append-row-requires c κs =
 record-end-requires : tie.Need-record-end-requires Inv-loop μ-loop
 record-end-requires c κs =
     let at-loop : tie.At-loop Inv-loop μ-loop = search in
-    omega (arith, record-whole (at-loop .loop .inv .1) (omega arith))
+    let F = at-loop .loop .inv .1 in
+    (omega (arith, record-whole F (omega arith)), F .width)
 
 add-k : tie.Need-add-k Inv-loop μ-loop
 add-k c = omega arith
@@ -81,7 +82,7 @@ returns c =
     let at-clear-nodes : tie.After-clear-nodes Inv-loop μ-loop = search in
     let start : tie.Start Inv-loop μ-loop = search in
     filling-end (c .before .loop .inv .1) (omega arith) ∙ ap
-    (λ (N : List ℕ). enterAll N (kitsRead (start .args .s .now) (start .args .from) (start .args .m)))
+    (λ (N : List ℕ). enterAll N (kitsRead (start .args .w) (start .args .s .now) (start .args .from) (start .args .m)))
     (at-clear-nodes .clear-nodes .ensures)
 
 pub fill-nodes-spec : {M : Type 1} → statement M

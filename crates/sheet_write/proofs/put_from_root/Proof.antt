@@ -23,7 +23,10 @@ put-own-requires c κs =
       start .pre .0,
       (
         root-live (start .pre .0),
-        (sym (root-lines (start .pre .0)), omega (arith, start .pre .1 .1, root-long (start .args .nodes .now) refl)),
+        (
+          sym (root-lines (start .pre .0) (start .args .w)),
+          (start .pre .1 .0, omega (arith, start .pre .1 .1 .1, root-long (start .args .w) (start .args .nodes .now) refl)),
+        ),
       ),
     )
 
@@ -43,8 +46,11 @@ put-kits-requires c κs =
     let own = at-put-own .put-own .ensures in (
       root-reached (start .pre .0) e (at-none .none .ensures),
       (
-        root-stands (start .pre .0) e (start .pre .1 .0),
-        omega (arith, start .pre .1 .1, root-long (start .args .nodes .now) e, own .behind, put-length own),
+        root-stands (start .pre .0) e (start .pre .1 .1 .0),
+        (
+          start .pre .1 .0,
+          omega (arith, start .pre .1 .1 .1, root-long (start .args .w) (start .args .nodes .now) e, own .behind, put-length own),
+        ),
       ),
     )
 
@@ -61,7 +67,7 @@ returns c =
     let at-put-own : tie.After-put-own = search in
     let start : tie.Start = search in
     put-same (put-put (at-put-own .put-own .ensures) (at-put-kits .put-kits .ensures .0))
-    (sym (root-parts (start .args .nodes .now) (at-child-at .child-at .ensures .0)))
+    (sym (root-parts (start .args .w) (start .args .nodes .now) (at-child-at .child-at .ensures .0)))
 
 pub put-from-root-spec : {M : Type 1} → statement M
 put-from-root-spec =

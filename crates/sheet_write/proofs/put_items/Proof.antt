@@ -8,7 +8,7 @@ use Rattle.ground.proofs.Put.{Rest, rest-behind, rest-lent, rest-fits, rest-ins
 use Rattle.register.proofs.Sound.{ready-short}
 use Rattle.nodes.specs.Inner.{walkAll}
 use Rattle.sheet.specs.Bytes.{two}
-use Rattle.sheet.specs.Sheet.{encode, contentsOf}
+use Rattle.sheet.specs.Sheet.{placeBytes, encode, contentsOf}
 use Rattle.sheet.proofs.Numbers.{two-length}
 use Rattle.sheet_write.specs.Inner.{headItems, numbersFrom, recordsAt}
 use Rattle.sheet_write.proofs.Whole.{sheet-items}
@@ -24,7 +24,7 @@ module _ (c : tie.Start) where
   count = two (c .args .sheet .kits)
 
   abbrev records : List ℕ
-  records = recordsAt (c .args .nodes .now) (walkAll (c .args .nodes .now))
+  records = recordsAt (placeBytes (c .args .sheet .parts)) (c .args .nodes .now) (walkAll (c .args .nodes .now))
 
   items : encode (contentsOf (c .args .reg .now) (c .args .nodes .now)) ≡ headItems (c .args .sheet .parts) ++ (numbers ++ (count ++ records))
   items =
@@ -81,6 +81,24 @@ third c =
     let start : tie.Start = search in
     rest-lent (count start) (records start) (second at-slice-known3) (at-put-two .put-two .ensures)
 
+records-down : (c : tie.After-slice-known5) →
+    let at-put-records : tie.After-put-records = search in
+    let at-put-two : tie.After-put-two = search in
+    let at-put-numbers : tie.After-put-numbers = search in
+    let at-put-head : tie.After-put-head = search in
+    let start : tie.Start = search in
+    Put
+    (tail-of (back (back (at-put-head .put-head .last .0) (at-put-head .put-head .result) (at-put-numbers .put-numbers .last .0))
+    (at-put-head .put-head .result + at-put-numbers .put-numbers .result) (at-put-two .put-two .last .0))
+    (at-put-head .put-head .result + at-put-numbers .put-numbers .result + at-put-two .put-two .result)) 0 (records start)
+    (at-put-records .put-records .result) (at-put-records .put-records .last .0)
+records-down c =
+    let start : tie.Start = search in
+    let at-put-records : tie.After-put-records = search in
+    let at-place-bytes : tie.After-place-bytes = search in
+    put-same (at-put-records .put-records .ensures)
+    (ap (λ (w : ℕ). recordsAt w (start .args .nodes .now) (walkAll (start .args .nodes .now))) (at-place-bytes .place-bytes .ensures .0))
+
 all : (c : tie.After-slice-known5) →
     let at-put-records : tie.After-put-records = search in
     let at-put-two : tie.After-put-two = search in
@@ -95,9 +113,8 @@ all : (c : tie.After-slice-known5) →
     (at-put-head .put-head .result + at-put-numbers .put-numbers .result + at-put-two .put-two .result)
     (at-put-records .put-records .last .0))
 all c =
-    let at-put-records : tie.After-put-records = search in
     let at-slice-known4 : tie.After-slice-known4 = search in
-    last-lent (third at-slice-known4) (at-put-records .put-records .ensures)
+    last-lent (third at-slice-known4) (records-down c)
 
 put-head-requires : tie.Need-put-head-requires
 put-head-requires c κs =
@@ -179,19 +196,21 @@ part-put-records-start c = omega (arith, third c .room)
 part-put-records-end : tie.Need-part-put-records-end
 part-put-records-end c = search needs
 
+place-bytes-requires : tie.Need-place-bytes-requires
+place-bytes-requires c κs = tt
+
 put-records-requires : tie.Need-put-records-requires
 put-records-requires c κs =
+    let at-slice-known4 : tie.After-slice-known4 = search in
     let start : tie.Start = search in
-    (start .pre .1 .0 .shape, last-fits (third (c .before)))
+    let p = c .place-bytes .ensures in
+    (start .pre .1 .0 .shape, (p .1, rw (p .0) (last-fits (third at-slice-known4))))
 
 add-result : tie.Need-add-result
 add-result c =
-    omega (
-      arith,
-      third (c .before .before .before .before) .room,
-      third (c .before .before .before .before) .size,
-      c .before .before .put-records .ensures .behind,
-    )
+    let at-slice-known4 : tie.After-slice-known4 = search in
+    let start : tie.Start = search in
+    omega (arith, third at-slice-known4 .room, third at-slice-known4 .size, records-down c .behind)
 
 same-length : tie.Need-same-length
 same-length c = put-length (all c)
@@ -218,6 +237,7 @@ put-items-spec =
     sub-put-records
     part-put-records-start
     part-put-records-end
+    place-bytes-requires
     put-records-requires
     add-result
     same-length

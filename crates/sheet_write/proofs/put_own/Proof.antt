@@ -8,7 +8,7 @@ use Rattle.ground.proofs.Put.{put-none, put-same, put-lent}
 use Rattle.nodes.proofs.Rows.{climb, live-inside}
 use Rattle.sheet.specs.Inner.{recordBytes}
 use Rattle.sheet_write.specs.Inner.{ownRecord}
-use Rattle.sheet_write.proofs.Records.{own-none, own-record, row-few, row-long}
+use Rattle.sheet_write.proofs.Records.{own-none, own-record, row-count}
 use borrow.Author.Needs.{needs}
 use Rattle.sheet_write.proofs.put_own.Statement.{statement}
 use Rattle.sheet_write.proofs.put_own.Tie as tie
@@ -16,21 +16,21 @@ use Rattle.sheet_write.proofs.put_own.Tie as tie
 own : (c : tie.Else1) →
     let at-tag-at : tie.After-tag-at = search in
     let start : tie.Start = search in
-    recordBytes (at-tag-at .tag-at .result) (start .args .lines .now) ≡ ownRecord (start .args .nodes .now) (start .args .i)
+    recordBytes (start .args .w) (at-tag-at .tag-at .result) (start .args .lines .now) ≡ ownRecord (start .args .w) (start .args .nodes .now) (start .args .i)
 own c =
     let at-tag-at : tie.After-tag-at = search in
     let start : tie.Start = search in
-    ap (recordBytes (at-tag-at .tag-at .result)) (start .pre .1 .1 .0)
-    ∙ own-record (start .args .nodes .now) (start .pre .0) (start .args .i) (start .pre .1 .0) (at-tag-at .tag-at .result)
+    ap (recordBytes (start .args .w) (at-tag-at .tag-at .result)) (start .pre .1 .1 .0)
+    ∙ own-record (start .args .nodes .now) (start .pre .0) (start .args .i) (start .pre .1 .0) (start .pre .1 .1 .1 .0) (at-tag-at .tag-at .result)
     (at-tag-at .tag-at .ensures) (c .if1 .left)
 
 fits : (c : tie.Else1) →
     let at-tag-at : tie.After-tag-at = search in
     let start : tie.Start = search in
-    start .args .at + length (recordBytes (at-tag-at .tag-at .result) (start .args .lines .now)) ≤ length (start .args .out .now)
+    start .args .at + length (recordBytes (start .args .w) (at-tag-at .tag-at .result) (start .args .lines .now)) ≤ length (start .args .out .now)
 fits c =
     let start : tie.Start = search in
-    omega (arith, ap length (own c), start .pre .1 .1 .1)
+    omega (arith, ap length (own c), start .pre .1 .1 .1 .1)
 
 tag-at-requires : tie.Need-tag-at-requires
 tag-at-requires c κs =
@@ -41,7 +41,7 @@ returns : tie.Need-returns
 returns c =
     let start : tie.Start = search in
     put-none (start .args .out .now) (start .args .at)
-    (own-none (start .args .nodes .now) (start .args .i) (sym (c .before .tag-at .ensures) ∙ c .if1 .taken))
+    (own-none (start .args .w) (start .args .nodes .now) (start .args .i) (sym (c .before .tag-at .ensures) ∙ c .if1 .taken))
 
 sub-put-kit : tie.Need-sub-put-kit
 sub-put-kit c = search needs
@@ -57,13 +57,12 @@ put-kit-requires c κs =
     let else1 : tie.Else1 = search in
     let at-tag-at : tie.After-tag-at = search in
     let start : tie.Start = search in (
-      omega (
-        arith,
-        ap length (start .pre .1 .1 .0),
-        row-few (start .args .nodes .now) (start .pre .0) (start .args .i) (start .pre .1 .0),
-        row-long (start .args .nodes .now) (start .pre .0) (start .args .i) (start .pre .1 .0),
+      (
+        row-count (start .args .nodes .now) (start .pre .0) (start .args .i) (start .pre .1 .0) (start .pre .1 .1 .1 .0) (start .pre .1 .1 .0),
+        room (start .args .out .now) (start .args .at) (length (recordBytes (start .args .w) (at-tag-at .tag-at .result) (start .args .lines .now)))
+            (fits else1),
       ),
-      room (start .args .out .now) (start .args .at) (length (recordBytes (at-tag-at .tag-at .result) (start .args .lines .now))) (fits else1),
+      start .pre .1 .1 .1 .0,
     )
 
 add-result : tie.Need-add-result

@@ -14,7 +14,7 @@ own-size-requires : tie.Need-own-size-requires
 own-size-requires c κs =
     let at-none : tie.After-none = search in
     let start : tie.Start = search in
-    (start .pre, (root-live (start .pre), root-end (start .pre) (at-none .none .ensures)))
+    (start .pre .0, (root-live (start .pre .0), (root-end (start .pre .0) (at-none .none .ensures), start .pre .1)))
 
 child-at-requires : tie.Need-child-at-requires
 child-at-requires c κs = search needs
@@ -24,11 +24,14 @@ kits-size-requires c κs =
     let at-child-at : tie.After-child-at = search in
     let at-none : tie.After-none = search in
     let start : tie.Start = search in (
-      root-reached (start .pre) (at-child-at .child-at .ensures .0) (at-none .none .ensures),
-      omega (
-        arith,
-        root-long (start .args .nodes .now) (at-child-at .child-at .ensures .0),
-        records-most (start .args .nodes .now) (start .pre),
+      root-reached (start .pre .0) (at-child-at .child-at .ensures .0) (at-none .none .ensures),
+      (
+        start .pre .1,
+        omega (
+          arith,
+          root-long (start .args .w) (start .args .nodes .now) (at-child-at .child-at .ensures .0),
+          records-most (start .pre .1) (start .args .nodes .now) (start .pre .0),
+        ),
       ),
     )
 
@@ -42,8 +45,8 @@ add-result c =
       arith,
       at-own-size .own-size .ensures,
       at-kits-size .kits-size .ensures,
-      root-long (start .args .nodes .now) (at-child-at .child-at .ensures .0),
-      records-most (start .args .nodes .now) (start .pre),
+      root-long (start .args .w) (start .args .nodes .now) (at-child-at .child-at .ensures .0),
+      records-most (start .pre .1) (start .args .nodes .now) (start .pre .0),
     )
 
 returns : tie.Need-returns
@@ -52,10 +55,10 @@ returns c =
     let at-child-at : tie.After-child-at = search in
     let at-own-size : tie.After-own-size = search in
     let start : tie.Start = search in
-    let long = root-long (start .args .nodes .now) (at-child-at .child-at .ensures .0) in
+    let long = root-long (start .args .w) (start .args .nodes .now) (at-child-at .child-at .ensures .0) in
     let own = at-own-size .own-size .ensures in
     let below = at-kits-size .kits-size .ensures in
-    (omega (arith, own, below, long), omega (arith, own, below, long, records-most (start .args .nodes .now) (start .pre)))
+    (omega (arith, own, below, long), omega (arith, own, below, long, records-most (start .pre .1) (start .args .nodes .now) (start .pre .0)))
 
 pub records-size-spec : {M : Type 1} → statement M
 records-size-spec =

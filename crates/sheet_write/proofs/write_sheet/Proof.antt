@@ -1,28 +1,35 @@
 -- What is counted is what the walk sets down, so the need is the sheet's length; room decides.
-use mathlib.Core.Path.{_≡_, _∙_, refl}
-use Prim.Native.Nat.{_+_}
+use mathlib.Core.Path.{_≡_, _∙_, refl, ap}
+use Prim.Native.Nat.{ℕ, _+_}
 use native.Mathlib.Omega.{arith}
 use lib.ListN.{length}
 use Rattle.ground.proofs.Put.{put-length}
 use Rattle.register.proofs.Sound.{ready-short}
+use Rattle.nodes.specs.Inner.{walkAll}
 use Rattle.nodes.specs.Held.{held}
 use Rattle.nodes.proofs.Tallies.{root-counts}
 use Rattle.sheet.specs.Sheet.{encode, contentsOf}
+use Rattle.sheet_write.specs.Inner.{recordsAt}
 use Rattle.sheet_write.proofs.Whole.{sheet-size, writing-12, writing-done}
 use Rattle.sheet_write.proofs.write_sheet.Statement.{statement}
 use Rattle.sheet_write.proofs.write_sheet.Tie as tie
 
 need : (c : tie.After-records-size) →
     let start : tie.Start = search in
-    7 + c .before .numbers-size .result + 2 + c .records-size .result ≡ length
+    let at-numbers-size : tie.After-numbers-size = search in
+    7 + at-numbers-size .numbers-size .result + 2 + c .records-size .result ≡ length
     (encode (contentsOf (start .args .reg .now) (start .args .nodes .now)))
 need c =
+    let at-place-bytes : tie.After-place-bytes = search in
+    let at-numbers-size : tie.After-numbers-size = search in
     let at-count-parts : tie.After-count-parts = search in
     let start : tie.Start = search in
+    let N = start .args .nodes .now in
     omega (
       arith,
       c .records-size .ensures .0,
-      c .before .numbers-size .ensures .0,
+      ap (λ (w : ℕ). length (recordsAt w N (walkAll N))) (at-place-bytes .place-bytes .ensures .0),
+      at-numbers-size .numbers-size .ensures .0,
       sheet-size (start .args .reg .now)
           (start .args .nodes .now) (start .pre .0) (at-count-parts .count-parts .result) (length (held (start .args .nodes .now)))
           (at-count-parts .count-parts .ensures .0) refl (start .pre .1 .shape),
@@ -46,10 +53,18 @@ add-need c = omega (arith, c .numbers-size .ensures .1, c .before .count-parts .
 add-need-2 : tie.Need-add-need-2
 add-need-2 c = omega (arith, c .numbers-size .ensures .1, c .before .count-parts .ensures .1)
 
+cast-place-bytes : tie.Need-cast-place-bytes
+cast-place-bytes c =
+    let at-count-parts : tie.After-count-parts = search in
+    omega (arith, at-count-parts .count-parts .ensures .1)
+
+place-bytes-requires : tie.Need-place-bytes-requires
+place-bytes-requires c κs = tt
+
 records-size-requires : tie.Need-records-size-requires
 records-size-requires c κs =
     let start : tie.Start = search in
-    start .pre .1 .shape
+    (start .pre .1 .shape, c .place-bytes .ensures .1)
 
 add-need-3 : tie.Need-add-need-3
 add-need-3 c = omega arith
@@ -115,6 +130,8 @@ write-sheet-spec =
     numbers-size-requires
     add-need
     add-need-2
+    cast-place-bytes
+    place-bytes-requires
     records-size-requires
     add-need-3
     returns

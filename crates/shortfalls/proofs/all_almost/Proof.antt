@@ -11,8 +11,10 @@ use borrow.Author.Needs.{needs}
 use Rattle.shortfalls.proofs.all_almost.Statement.{statement}
 use Rattle.shortfalls.proofs.all_almost.Tie as tie
 
-quantities-of-requires : tie.Need-quantities-of-requires
-quantities-of-requires c κs = search needs
+set-quantities-requires : tie.Need-set-quantities-requires
+set-quantities-requires c κs =
+    let start : tie.Start = search in
+    (start .pre .1 .0, refl)
 
 least-requires : tie.Need-least-requires
 least-requires c κs = search needs
@@ -35,16 +37,16 @@ returns c =
     let then1 : tie.Then1 = search in
     let at-kit-count : tie.After-kit-count = search in
     let at-least : tie.After-least = search in
-    let at-quantities-of : tie.After-quantities-of = search in
+    let at-set-quantities : tie.After-set-quantities = search in
     let start : tie.Start = search in
     let a = start .args in
     let S = start .pre .0 .shape in
-    let ts = tags-are (a .d) (a .bin .now) S (start .pre .1 .0) (at-quantities-of .quantities-of .ensures) in
-    let ss = shorts-are (a .d) (a .bin .now) S (start .pre .1 .0) (at-quantities-of .quantities-of .ensures) in
+    let ts = tags-are (a .d) (a .bin .now) S (start .pre .1 .0) (at-set-quantities .set-quantities .ensures) in
+    let ss = shorts-are (a .d) (a .bin .now) S (start .pre .1 .0) (at-set-quantities .set-quantities .ensures) in
     all-done ts ss (a .tags .now) (a .shorts .now) (at-least .least .ensures) (at-set-almost .set-almost .ensures) refl refl
     (omega (
       arith,
-      no-more-than-kits S (almost (at-quantities-of .quantities-of .result) (a .d)) (tag (a .nodes .now)) (at-set-almost .set-almost .ensures .one)
+      no-more-than-kits S (almost (at-set-quantities .set-quantities .last .0) (a .d)) (tag (a .nodes .now)) (at-set-almost .set-almost .ensures .one)
           (at-kit-count .kit-count .ensures),
       then1 .if1 .taken,
     )) (at-set-almost .set-almost .ensures)
@@ -80,12 +82,12 @@ returns-2 : tie.Need-returns-2
 returns-2 c =
     let at-set-almost2 : tie.After-set-almost2 = search in
     let at-least : tie.After-least = search in
-    let at-quantities-of : tie.After-quantities-of = search in
+    let at-set-quantities : tie.After-set-quantities = search in
     let start : tie.Start = search in
     let a = start .args in
     let S = start .pre .0 .shape in
-    let ts = tags-are (a .d) (a .bin .now) S (start .pre .1 .0) (at-quantities-of .quantities-of .ensures) in
-    let ss = shorts-are (a .d) (a .bin .now) S (start .pre .1 .0) (at-quantities-of .quantities-of .ensures) in
+    let ts = tags-are (a .d) (a .bin .now) S (start .pre .1 .0) (at-set-quantities .set-quantities .ensures) in
+    let ss = shorts-are (a .d) (a .bin .now) S (start .pre .1 .0) (at-set-quantities .set-quantities .ensures) in
     all-refused ts ss (a .tags .now) (a .shorts .now) (at-least .least .ensures) (at-set-almost2 .set-almost2 .ensures)
     (none-lent (at-set-almost2 .set-almost2 .ensures .one)) (none-lent (at-set-almost2 .set-almost2 .ensures .two))
     (c .if2 .taken)
@@ -105,12 +107,12 @@ returns-3 c =
     let else2 : tie.Else2 = search in
     let at-set-almost2 : tie.After-set-almost2 = search in
     let at-least : tie.After-least = search in
-    let at-quantities-of : tie.After-quantities-of = search in
+    let at-set-quantities : tie.After-set-quantities = search in
     let start : tie.Start = search in
     let a = start .args in
     let S = start .pre .0 .shape in
-    let ts = tags-are (a .d) (a .bin .now) S (start .pre .1 .0) (at-quantities-of .quantities-of .ensures) in
-    let ss = shorts-are (a .d) (a .bin .now) S (start .pre .1 .0) (at-quantities-of .quantities-of .ensures) in
+    let ts = tags-are (a .d) (a .bin .now) S (start .pre .1 .0) (at-set-quantities .set-quantities .ensures) in
+    let ss = shorts-are (a .d) (a .bin .now) S (start .pre .1 .0) (at-set-quantities .set-quantities .ensures) in
     all-done ts ss (a .tags .now) (a .shorts .now) (at-least .least .ensures) (at-set-almost2 .set-almost2 .ensures)
     (none-lent (at-set-almost2 .set-almost2 .ensures .one)) (none-lent (at-set-almost2 .set-almost2 .ensures .two))
     (else2 .if2 .left) (at-set-almost3 .set-almost3 .ensures)
@@ -119,7 +121,7 @@ pub all-almost-spec : {M : Type 1} → statement M
 all-almost-spec =
     tie.close
     (tie.spec
-    quantities-of-requires
+    set-quantities-requires
     least-requires
     kit-count-requires
     set-almost-requires

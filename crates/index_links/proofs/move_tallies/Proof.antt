@@ -1,19 +1,20 @@
--- Node by node upwards, what is left to count leads to the same table, and each number has one to lose.
+-- Node by node upwards, what is left to count leads to the same table, and each number has what it is to lose and room for what it is to get.
 use native.Mathlib.Omega.{arith}
 use mathlib.Core.Path.{_∙_}
 use Rattle.nodes.specs.Nodes.{depth}
-use Rattle.index_links.proofs.Counting.{CountingOut, counting-out, counting-inside, counting-root, counting-able, counting-root-able, counting-less, counting-up, counting-end}
-use Rattle.index_links.proofs.count_out.Statement.{statement}
-use Rattle.index_links.proofs.count_out.Tie as tie
+use Rattle.index_links.proofs.Counting.{Counting, counting-start, counting-inside, counting-root, counting-able, counting-root-able}
+use Rattle.index_links.proofs.Counting.{counting-less, counting-up, counting-end}
+use Rattle.index_links.proofs.move_tallies.Statement.{statement}
+use Rattle.index_links.proofs.move_tallies.Tie as tie
 
 abbrev Inv-loop : tie.InvT-loop
-Inv-loop nodes₀ i at₀ nodes at = CountingOut nodes₀ i nodes at
+Inv-loop nodes₀ i off on at₀ nodes at = Counting off on nodes₀ i nodes at
 
 abbrev μ-loop : tie.MeasureT-loop
-μ-loop nodes₀ i at₀ nodes at = depth nodes at
+μ-loop nodes₀ i off on at₀ nodes at = depth nodes at
 
 loop-holds : tie.Need-loop-holds Inv-loop μ-loop
-loop-holds c = counting-out (c .before .pre)
+loop-holds c = counting-start (c .before .pre)
 
 parent-at-requires : tie.Need-parent-at-requires Inv-loop μ-loop
 parent-at-requires c κs = search counting-inside
@@ -25,7 +26,13 @@ sub-put-tally : tie.Need-sub-put-tally Inv-loop μ-loop
 sub-put-tally c =
     let at-tally-at : tie.After-tally-at Inv-loop μ-loop = search in
     let at-loop : tie.At-loop Inv-loop μ-loop = search in
-    omega (arith, at-tally-at .tally-at .ensures, counting-able (at-loop .loop .inv))
+    omega (arith, at-tally-at .tally-at .ensures, counting-able (at-loop .loop .inv) .0)
+
+add-put-tally : tie.Need-add-put-tally Inv-loop μ-loop
+add-put-tally c =
+    let at-tally-at : tie.After-tally-at Inv-loop μ-loop = search in
+    let at-loop : tie.At-loop Inv-loop μ-loop = search in
+    omega (arith, at-tally-at .tally-at .ensures, counting-able (at-loop .loop .inv) .1, at-loop .loop .inv .counts .few)
 
 put-tally-requires : tie.Need-put-tally-requires Inv-loop μ-loop
 put-tally-requires c κs = search counting-inside
@@ -58,7 +65,19 @@ sub-put-tally-2 c =
     let at-tally-at2 : tie.After-tally-at2 Inv-loop μ-loop = search in
     let after-loop : tie.After-loop Inv-loop μ-loop = search in
     let at-loop : tie.At-loop Inv-loop μ-loop = search in
-    omega (arith, at-tally-at2 .tally-at2 .ensures, counting-root-able (at-loop .loop .inv) (after-loop .loop-test .left))
+    omega (arith, at-tally-at2 .tally-at2 .ensures, counting-root-able (at-loop .loop .inv) (after-loop .loop-test .left) .0)
+
+add-put-tally-2 : tie.Need-add-put-tally-2 Inv-loop μ-loop
+add-put-tally-2 c =
+    let at-tally-at2 : tie.After-tally-at2 Inv-loop μ-loop = search in
+    let after-loop : tie.After-loop Inv-loop μ-loop = search in
+    let at-loop : tie.At-loop Inv-loop μ-loop = search in
+    omega (
+      arith,
+      at-tally-at2 .tally-at2 .ensures,
+      counting-root-able (at-loop .loop .inv) (after-loop .loop-test .left) .1,
+      at-loop .loop .inv .counts .few,
+    )
 
 put-tally-requires-2 : tie.Need-put-tally-requires-2 Inv-loop μ-loop
 put-tally-requires-2 c κs = search counting-root
@@ -77,8 +96,8 @@ returns c =
     let at-loop : tie.At-loop Inv-loop μ-loop = search in
     counting-end (at-loop .loop .inv) (after-loop .loop-test .left) (at-tally-at2 .tally-at2 .ensures) (at-put-tally2 .put-tally2 .ensures)
 
-pub count-out-spec : {M : Type 1} → statement M
-count-out-spec =
+pub move-tallies-spec : {M : Type 1} → statement M
+move-tallies-spec =
     tie.close
     (tie.spec
     Inv-loop
@@ -87,11 +106,13 @@ count-out-spec =
     parent-at-requires
     tally-at-requires
     sub-put-tally
+    add-put-tally
     put-tally-requires
     loop-less
     loop-again
     tally-at-requires-2
     sub-put-tally-2
+    add-put-tally-2
     put-tally-requires-2
     same-length
     returns)

@@ -2,19 +2,21 @@
 -- against the document's words. Computed. Proof: proofs/Limits, `limits`
 use mathlib.Core.Path.{_≡_}
 use mathlib.Core.List.{List, [], _∷_, _++_, map}
-use Prim.Native.Nat.{ℕ, zero, suc, _+_, _-_, _*_, _/_}
+use Prim.Native.Nat.{ℕ, zero, suc, _+_, _-_, _*_, _/_, _%_}
 use lib.ListN.{take, replicate}
 use lib.Dec.{eqb}
-use Rattle.ground.specs.Lists.{from, keep}
+use Rattle.ground.specs.Lists.{from, keep, concat}
 use Rattle.ground.specs.Calls.{Reply, done, refused, numberOf, valueOf, decide, answer, memory, both}
 use Rattle.ground.specs.Tables.{Tables, tables}
 use Rattle.register.specs.Calls.{registering, lookingUp, showing}
 use Rattle.kits.specs.Kits.{lineValue, listFaults}
 use Rattle.nodes.specs.Nodes.{wordsPerNode}
+use Rattle.nodes.specs.Held.{Kit}
 use Rattle.questions.specs.Questions.{isWithin, isContaining}
-use Rattle.sheet.specs.Sheet.{encode}
+use Rattle.sheet.specs.Sheet.{Contents, encode}
+use Rattle.sheet.specs.Reading.{item, records, decode}
 use Rattle.catalogue.specs.Calls.{Call, registerPart, insertKit, deleteKit, emptying, inserting, finding, anyKit, allKits, almostKits, reading, counting}
 use Rattle.demands.specs.Model.{has, tablesOf}
 
 -- tables of so many bytes and words, all zero, and of so many slots and nodes
 abbrev pub zeroTables : ℕ → ℕ → Tables
@@ -47,13 +49,13 @@ NumberLimits =
     × (registeredAlone (0x41 ∷ 0x2D ∷ 0x2E ∷ 0x2F ∷ 0x41 ∷ []) ≡ done 1)
 
 ------------------------------------------------------------------------
--- "Its length is a multiple of 32 from 32 to 8,160 (1 to 255 parts)." "Lent 16-bit words .. 1 to 4,096 nodes."
--- Request 7: "the table's length becomes a multiple of 7, up to 28,672 words."
+-- "Its length is a multiple of 32 from 32 ..", and request 10: "The register may be up to 128,000 bytes, 4,000 slots." "Lent 16-bit words .. 1 to
+-- 4,096 nodes." Request 7: "the table's length becomes a multiple of 7, up to 28,672 words."
 
 abbrev pub LengthLimits : Type 0
 LengthLimits =
-    (answer (emptying (emptyTables 255 4096)) ≡ done 0)
-    × (answer (emptying (emptyTables 256 1)) ≡ refused 1 0)
+    (answer (emptying (emptyTables 4000 4096)) ≡ done 0)
+    × (answer (emptying (emptyTables 4001 1)) ≡ refused 1 0)
     × (answer (emptying (emptyTables 1 4097)) ≡ refused 1 0)
     × (answer (emptying (zeroTables 32 28672)) ≡ done 0)
     × (answer (emptying (zeroTables 32 7)) ≡ done 0)
@@ -112,7 +114,7 @@ unfoldable pub risingLines : ℕ → ℕ → List ℕ
 risingLines p zero = []
 risingLines p (suc n) = p ∷ 1 ∷ risingLines (suc p) n
 
--- what the check of a list says beside 4,000 parts, which no register has
+-- what the check of a list says beside 4,000 parts, the most that a register has
 unfoldable pub checkAnswer : List ℕ → Reply
 checkAnswer l = decide (listFaults 4000 l) 0
 
@@ -198,8 +200,8 @@ OrderOfRefusals =
     × (map (λ p. numberOf (answer (showing p (twoKits .register)))) (0 ∷ 1 ∷ 2 ∷ []) ≡ 11 ∷ 0 ∷ 11 ∷ [])
 
 ------------------------------------------------------------------------
--- "parent, first child, next sibling, label, depth, tag", and "the number of tagged nodes at or below it". "Insertion takes missing nodes from shallow to deep, each the lowest numbered free
--- one." "Freed nodes are used again."
+-- "parent, first child, next sibling, label, depth, tag", and "the number of tagged nodes at or below it". "Insertion takes missing nodes from shallow
+-- to deep, each the lowest numbered free one." "Freed nodes are used again."
 
 -- the words of five nodes, after some calls behind the registration of three parts
 unfoldable pub wordsAfter : List Call → List ℕ
@@ -290,6 +292,65 @@ SheetLimits =
     × (readIn 3 4 largerSheet ≡ refused 12 5)
     × (readIn 3 5 largerSheet ≡ done 3)
 
+------------------------------------------------------------------------
+-- Request 10: "The writer still uses version 1 up to 255 parts and version 2 beyond, where a place takes two bytes; a version 2 sheet with 255 parts or
+-- fewer is at fault at its part count." "Refusals: 1, 5 and 13 read the new limit."
+
+-- the bytes K I T, a version and a part count, and nothing behind them
+abbrev pub headOf : ℕ → ℕ → ℕ → List ℕ
+headOf v high low = 0x4B ∷ 0x49 ∷ 0x54 ∷ 0 ∷ v ∷ high ∷ low ∷ []
+
+-- the numbers AA, AB, .. of two capitals, and the sheet of the first n of them: its head, each with its length, and the rest
+unfoldable pub shortNumber : ℕ → List ℕ
+shortNumber i = (0x41 + i / 16) ∷ (0x41 + i % 16) ∷ []
+
+unfoldable pub shortNumbers : ℕ → List (List ℕ)
+shortNumbers n = map shortNumber (from 0 n)
+
+unfoldable pub sheetWith : List ℕ → ℕ → List ℕ → List ℕ
+sheetWith head n rest = head ++ (concat (map (λ p. 2 ∷ p) (shortNumbers n)) ++ rest)
+
+abbrev pub kitWith : List ℕ → ℕ → Kit
+kitWith r t = record { row = r; tag = t }
+
+-- 255 parts and a kit with the place 255; 256, and one with the places 255 and 256
+abbrev pub narrowSays : Contents
+narrowSays = has (shortNumbers 255) (kitWith (255 ∷ 255 ∷ []) 258 ∷ [])
+
+abbrev pub narrowSheet : List ℕ
+narrowSheet = sheetWith (headOf 1 0 255) 255 (0 ∷ 1 ∷ 1 ∷ 2 ∷ 1 ∷ 255 ∷ 2 ∷ [])
+
+abbrev pub wideSays : Contents
+wideSays = has (shortNumbers 256) (kitWith (255 ∷ 256 ∷ 256 ∷ []) 258 ∷ [])
+
+abbrev pub wideSheet : List ℕ
+wideSheet = sheetWith (headOf 2 1 0) 256 (0 ∷ 1 ∷ 1 ∷ 2 ∷ 2 ∷ 0 ∷ 255 ∷ 1 ∷ 1 ∷ 0 ∷ 2 ∷ [])
+
+-- of a record beside 4,000 parts, with the tag 9 and one unit of the place in these two bytes: the kits read, and how many records are missing
+unfoldable pub wideRecord : ℕ → ℕ → List Kit × ℕ
+wideRecord high low = let r = records 2 1 4000 [] (0 ∷ 9 ∷ 1 ∷ high ∷ low ∷ 1 ∷ []) 0 in (r .kits, r .missing)
+
+abbrev pub VersionLimits : Type 0
+VersionLimits =
+    -- a good part count, so that what stands behind it is cut: 0 and 255 parts, and 256 and 4,000
+    (map (readIn 1 1) (headOf 1 0 0 ∷ headOf 1 0 255 ∷ headOf 2 1 0 ∷ headOf 2 0x0F 0xA0 ∷ []) ≡ replicate 4 (refused 13 7))
+    -- 256 and 4,000 in version 1; 0 and 255 in version 2; 4,001 in both; 65,535
+    × (map (readIn 1 1) (headOf 1 1 0 ∷ headOf 1 0x0F 0xA0 ∷ headOf 2 0 0 ∷ headOf 2 0 255 ∷ headOf 1 0x0F 0xA1 ∷ headOf 2 0x0F 0xA1 ∷ headOf 2 255 255 ∷ [])
+    ≡ replicate 7 (refused 13 5))
+    -- the versions 0 and 3, and 512
+    × (map (readIn 1 1) (headOf 0 0 1 ∷ headOf 3 0 1 ∷ headOf 3 1 0 ∷ (0x4B ∷ 0x49 ∷ 0x54 ∷ 2 ∷ 0 ∷ 1 ∷ 0 ∷ []) ∷ []) ≡ replicate 4 (refused 13 3))
+    -- either sheet as it is written, and read
+    × (encode narrowSays ≡ narrowSheet)
+    × (decode narrowSheet ≡ item narrowSays [] 779)
+    × (encode wideSays ≡ wideSheet)
+    × (decode wideSheet ≡ item wideSays [] 786)
+    -- the places 257, 4,000 and 4,001
+    × (wideRecord 1 1 ≡ (kitWith (257 ∷ []) 9 ∷ [], 0))
+    × (wideRecord 0x0F 0xA0 ≡ (kitWith (4000 ∷ []) 9 ∷ [], 0))
+    × (wideRecord 0x0F 0xA1 ≡ ([], 1))
+
 -- [15.1]
 abbrev pub Limits : Type 0
-Limits = NumberLimits × LengthLimits × PathLimits × ListLimits × LineLimits × RoomLimits × OrderOfRefusals × NodeWords × CountLimits × SheetLimits
+Limits =
+    NumberLimits × LengthLimits × PathLimits × ListLimits × LineLimits × RoomLimits × OrderOfRefusals × NodeWords × CountLimits × SheetLimits
+    × VersionLimits

@@ -21,7 +21,7 @@ use Rattle.index.specs.Index.{entryRefusals, missingRefusals}
 use Rattle.questions.specs.Questions.{isWithin, isContaining, fitting, allOf, anyOf}
 use Rattle.shortfalls.specs.Shortfalls.{sumOver, lacking, shortfall, shortOf, isAlmost, shortsOf}
 use Rattle.sheet.specs.Bytes.{inBytes, valueFrom}
-use Rattle.sheet.specs.Sheet.{encode, numberItem, numberItems, lineItems, recordItem, recordItems}
+use Rattle.sheet.specs.Sheet.{version, encodeAs, encode, numberItem, numberItems, lineItems, recordItem, recordItems}
 use Rattle.sheet.specs.Reading.{onward, one, bytes, anyTwo, isVersion, goodPartCount, numberSize, newNumber, numbers, recordSize}
 use Rattle.sheet.specs.Reading.{linesRead, listIn, kitIn, hasTag, follows, newKit, unless, records, front, runOf, whole, decode}
 use Rattle.sheet.specs.Reading.{isFault, offset, said}
@@ -38,9 +38,10 @@ unfolding allb anyb every keep distinct concat eqList from firstOr laid decide a
     linesFaults listFaults units count noMore includes before linesFrom listOf caseTest goodList begins nodesLength nodesOf othersOf zeroWord
     isFree isUsed freeNodes usedNodes tagged path rowOf chain children upward isUnder tagsUnder rootGood parentGood depthGood labelGood fewEqual linksInside
     childGood nextGood onChain endTagged tagsDiffer tallyGood usedOthers nodesSound putKit inOrder tagIn tagsOf kitAt held firstTag beginnings
-    addNew allBeginnings beginsWith countBeginning hasLabel childWith lastBelow linkTo link unlink nodeOf lowestFree enterBelow enter recount lacks enterAll prune strikeAt strike
+    addNew allBeginnings beginsWith countBeginning hasLabel childWith lastBelow linkTo link unlink nodeOf lowestFree enterBelow enter recount lacks
+    enterAll prune strikeAt strike
     entryRefusals missingRefusals isWithin isContaining fitting allOf anyOf sumOver lacking shortfall shortOf isAlmost shortsOf inBytes
-    valueFrom encode numberItem numberItems lineItems recordItem recordItems onward one bytes anyTwo isVersion goodPartCount numberSize
+    valueFrom version encodeAs encode numberItem numberItems lineItems recordItem recordItems onward one bytes anyTwo isVersion goodPartCount numberSize
     newNumber numbers recordSize linesRead listIn kitIn hasTag follows newKit unless records front runOf whole decode isFault offset
     said roomRefusals sheetRefusals filling lengths lentBoth lentList planOf inserting deleting allKits almostKits anyKit writing
     emptying finding reading counting run begun tablesOf log

@@ -1,8 +1,8 @@
 -- Document 01's short cases, request 1's and the desk's worked example, computed.
 use mathlib.Core.Path.{refl}
-use Rattle.demands.specs.ShortCases.{insertRows, holding, listedBy, askedAlmost, struck, ShortCases, AlmostCases, entries, later, desk}
-use Rattle.demands.specs.ShortCases.{replies, DeskExample}
-use Rattle.demands.proofs.Opened.{opened}
+use Rattle.cases.specs.ShortCases.{insertRows, holding, listedBy, askedAlmost, struck, ShortCases, AlmostCases, entries, later, desk}
+use Rattle.cases.specs.ShortCases.{replies, DeskExample}
+use Rattle.cases.proofs.Opened.{opened}
 
 pub short-cases : ShortCases
 unfolding opened insertRows holding listedBy struck

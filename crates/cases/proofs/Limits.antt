@@ -1,8 +1,10 @@
 -- The limits, computed.
 use mathlib.Core.Path.{refl}
-use Rattle.demands.specs.Limits.{registeredAlone, bytesWith, fiveParts, pathFrom, pathAnswer, listAnswer, risingLines, checkAnswer}
-use Rattle.demands.specs.Limits.{twoKits, wordsAfter, withNumbers, longKit, readIn, NumberLimits, LengthLimits, PathLimits, ListLimits, LineLimits, RoomLimits, OrderOfRefusals, NodeWords, CountLimits, SheetLimits, Limits}
-use Rattle.demands.proofs.Opened.{opened}
+use Rattle.cases.specs.Limits.{registeredAlone, bytesWith, fiveParts, pathFrom, pathAnswer, listAnswer, risingLines, checkAnswer}
+use Rattle.cases.specs.Limits.{twoKits, wordsAfter, withNumbers, longKit, readIn, shortNumber, shortNumbers, sheetWith, wideRecord}
+use Rattle.cases.specs.Limits.{NumberLimits, LengthLimits, PathLimits, ListLimits, LineLimits, RoomLimits, OrderOfRefusals, NodeWords}
+use Rattle.cases.specs.Limits.{CountLimits, SheetLimits, VersionLimits, Limits}
+use Rattle.cases.proofs.Opened.{opened}
 
 number-limits : NumberLimits
 unfolding opened registeredAlone bytesWith
@@ -45,5 +47,21 @@ sheet-limits : SheetLimits
 unfolding opened readIn
 sheet-limits = (refl, refl, refl, refl, refl, refl, refl, refl, refl, refl, refl, refl)
 
+version-limits : VersionLimits
+unfolding opened readIn shortNumber shortNumbers sheetWith wideRecord
+version-limits = (refl, refl, refl, refl, refl, refl, refl, refl, refl, refl)
+
 pub limits : Limits
-limits = (number-limits, length-limits, path-limits, list-limits, line-limits, room-limits, order-of-refusals, node-words, count-limits, sheet-limits)
+limits = (
+  number-limits,
+  length-limits,
+  path-limits,
+  list-limits,
+  line-limits,
+  room-limits,
+  order-of-refusals,
+  node-words,
+  count-limits,
+  sheet-limits,
+  version-limits,
+)

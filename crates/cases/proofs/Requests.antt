@@ -1,0 +1,19 @@
+-- The cases of requests 3, 6 and 7, computed.
+use mathlib.Core.Path.{refl}
+use Rattle.demands.specs.Before.{goodByteBefore, goodNumberBefore, newNumberBefore, numbersBefore, frontBefore, decodeBefore}
+use Rattle.cases.specs.ShortCases.{insertRows, holding}
+use Rattle.cases.specs.Limits.{fiveParts}
+use Rattle.cases.specs.Requests.{BeforeCases, tornTables, TornCases, counted, countedLess, CountCases}
+use Rattle.cases.proofs.Opened.{opened}
+
+pub before-cases : BeforeCases
+unfolding opened goodByteBefore goodNumberBefore newNumberBefore numbersBefore frontBefore decodeBefore
+before-cases = (refl, refl, refl)
+
+pub torn-cases : TornCases
+unfolding opened tornTables
+torn-cases = (refl, refl, refl, refl, refl, refl)
+
+pub count-cases : CountCases
+unfolding opened insertRows holding counted countedLess fiveParts
+count-cases = (refl, refl, refl, refl, refl, refl, refl, refl, refl)
