@@ -438,8 +438,9 @@ def large():
 def long_lists():
     """Short and long lists at fault on their first line or their last, and odd ones.
 
-    Places strictly rise and there are at most 255 parts: of 4,000 lines, line 256 is at fault by 5
+    Places strictly rise, and here there are 255 parts: of 4,000 lines, line 256 is at fault by 5
     at the latest, so that what is wrong with the last is never said. They are sent all the same.
+    Beside 4,000 parts it is said: many_parts.long_lists.
     """
     full, words = parts_register(BYTE_PLACES, BYTE_PLACES), table(3, ((1,), 4), ((2,), 9))
     for listed in chain(*map(lists_at_fault, LINE_COUNTS), *map(odd_lists, ODD_LENGTHS)):
