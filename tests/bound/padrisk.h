@@ -22,7 +22,7 @@ uint8_t padrisk_find(const uint8_t *reg, size_t reg_bytes, const uint16_t *nodes
 uint8_t padrisk_delete(const uint8_t *reg, size_t reg_bytes, uint16_t *nodes, size_t node_words, const uint16_t *list,
                        size_t list_words, uint32_t *value);
 
-// How many kits begin with the units of a list: of the empty one, all.
+// How many kits begin with the units of a list: of the empty one, all that have a unit.
 uint8_t padrisk_count_beginning(const uint8_t *reg, size_t reg_bytes, const uint16_t *nodes, size_t node_words,
                                 const uint16_t *list, size_t list_words, uint32_t *value);
 

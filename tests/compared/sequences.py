@@ -2,10 +2,11 @@
 
 The tables that the probe answered go into its next request. Plays the fixed sequences, then so
 many by chance: by turns one catalogue that is filled and emptied, and two catalogues whose sheets
-must agree exactly when their contents do.
+must agree exactly when their contents do. No call ever leaves a tag at the root, but in tables that
+were lent with one.
 """
 
-from made import index_sequences, sheet_sequences, version_sequences
+from made import empty_sequences, index_sequences, sheet_sequences, version_sequences
 from made.chance import Chance
 from made.reached import sequences_reached
 from run.door import played
@@ -61,6 +62,8 @@ def compare(command, options):
     comparison.play("fixed", index_sequences.fixed)
     comparison.play("4,096 nodes", index_sequences.full_table)
     comparison.play("a torn label", sheet_sequences.torn_label)
+    comparison.play("old tables with an empty kit", empty_sequences.old_tables)
+    comparison.play("old sheets with an empty kit", empty_sequences.old_sheets)
     comparison.play("both versions", version_sequences.both_versions)
     comparison.play("4,000 parts", version_sequences.four_thousand_parts)
     for turn in range(options.sequences):

@@ -21,8 +21,10 @@ from .tables import LARGE_KINDS, Stock, large_table, parts_register, some_tables
 GOOD_D = [0, 1, 2, 63, 64]
 BAD_D = [65, 66, 127, 128, 255, 256, 257, 320, 32767, 32768, 65472, 65535]
 
-# Six kits; beside two of part 1 and five of part 3 they lack 0, 0, 0, 2, 1 and 0 units.
-SIX_KITS = [((), 5), ((1,), 65535), ((1, 1), 9), ((1, 1, 1, 2), 1), ((2, 3), 300), ((3, 3, 3), 2)]
+# Six kits and an empty one; beside two of part 1 and five of part 3 the six lack 0, 0, 2, 1, 0 and
+# 0 units.
+SIX_KITS = [((), 5), ((1,), 65535), ((1, 1), 9), ((1, 1, 1, 2), 1), ((2, 3), 300), ((3,), 7),
+            ((3, 3, 3), 2)]
 BIN = [1, 2, 3, 5]
 
 # Lists that are at fault, by 4, 5 and 6.
@@ -82,7 +84,7 @@ def room_text(room, needed):
 
 def outputs():
     """Both outputs shorter, one short, exactly full and longer, each beside each."""
-    for d, listed, needed in ((0, [], 1), (1, [], 2), (0, BIN, 4), (1, BIN, 5), (64, [], 6)):
+    for d, listed, needed in ((0, [1, 1], 1), (1, [], 2), (0, BIN, 4), (1, BIN, 5), (64, [], 6)):
         rooms = sorted({0, max(0, needed - 2), needed - 1, needed, needed + 1, needed + 5})
         for first, second in product(rooms, rooms):
             yield asking(d, listed, (first, second), "tags' output %s, shortfalls' output %s" % (
@@ -90,7 +92,7 @@ def outputs():
 
 
 def empty_outputs():
-    """No kit is held, none lacks so little, or the empty kit alone: into empty outputs."""
+    """No kit is held, none lacks so little, or an empty kit alone: into empty outputs."""
     empty, one, nothing = table(2), table(2, ((1,), 4)), table(2, ((), 4))
     for rooms in ((0, 0), (0, 3), (3, 0), (3, 3)):
         into = "into %d and %d places" % rooms
@@ -132,12 +134,12 @@ def sweeps():
 
 
 def every_d():
-    """Each d up to 70 where the kits of a path lack from nothing to 64 units."""
+    """Each d up to 70 where the kits of a path lack from one unit to 64, below an empty kit."""
     words = table(70, *((LONGEST_ROW[:length], 100 + length) for length in range(MOST_UNITS + 1)))
     five = parts_register(5)
     for d in range(71):
         for listed in ([], [1, 7, 5, 1]):
-            for first, second in ((65, 65), (d + 1, d), (d, d + 1)):
+            for first, second in ((65, 65), (d, max(0, d - 1)), (max(0, d - 1), d)):
                 yield Request("a", d, R=five, N=words, L=listed, P=[9] * first, Q=[8] * second,
                               note="a kit for each beginning, d %d" % d)
 
@@ -169,9 +171,11 @@ def large():
     """Tables of 4,096 nodes, each of them a kit or on long paths, with room for all or less."""
     full = parts_register(BYTE_PLACES, BYTE_PLACES)
     every = large_table("every node a kit")
-    for first, second in ((MOST_NODES, MOST_NODES), (MOST_NODES - 1, MOST_NODES),
-                          (MOST_NODES, MOST_NODES - 1), (MOST_NODES - 1, MOST_NODES - 1),
-                          (ROOM["P"], MOST_NODES), (MOST_NODES, ROOM["Q"]), (0, 0),
+    # All nodes but the root, whose kit is the empty one.
+    all_listed = MOST_NODES - 1
+    for first, second in ((all_listed, all_listed), (all_listed - 1, all_listed),
+                          (all_listed, all_listed - 1), (all_listed - 1, all_listed - 1),
+                          (ROOM["P"], all_listed), (all_listed, ROOM["Q"]), (0, 0),
                           (ROOM["P"], ROOM["Q"])):
         for d, listed in ((2, []), (64, []), (64, [16, 1, 100, 1])):
             yield Request("a", d, R=full, N=every, L=listed, P=[9] * first, Q=[8] * second,

@@ -3,17 +3,20 @@
 The tables that the program answered go into its next request. Beside them the second program
 carries tables of its own, and every block of every answer is compared. The contents are a third
 account, kept by the calls and replies alone. Behind each call it is asked how many kits begin with
-some row, and the answer is held against the contents.
+some row, and the answer is held against the contents. No call enters an empty kit: a table has one
+only where it was lent with it.
 """
 
 from run.door import Different
 from second import calls, nodes, register, sheet
-from second.kits import beginnings, first_fault, lines_of, lines_of_words, units, words_of
+from second.kits import (
+    beginnings, first_fault, lines_of, lines_of_words, units, with_units, words_of)
 from second.lent import Request
-from second.nodes import NODE_WORDS
+from second.nodes import NO_TAG, NODE_WORDS, ROOT
 from second.refusals import DONE
 from second.register import SLOT_BYTES
 
+from .empty_ways import ROOT_TAG_AT
 from .reached import ANSWER, COUNTED, COUNTED_BEHIND, SEQUENCES
 from .requests import fill_unused
 
@@ -44,21 +47,25 @@ class Contents:
             self.numbers, self.kits = [], {}
         elif request.letter == "p":
             self.numbers.append(lent["I"])
-        elif request.letter == "k":
+        elif request.letter == "k" and lent["L"]:
             self.kits[units(lines_of_words(lent["L"]))] = request.a
         elif request.letter == "d":
             del self.kits[units(lines_of_words(lent["L"]))]
         elif request.letter == "r":
             numbers, read = sheet.read(lent["I"])
-            self.numbers, self.kits = numbers, dict(read)
+            self.numbers, self.kits = numbers, with_units(dict(read))
 
     def nodes_needed(self):
         """The nodes that the kits take: "1 plus the number of different nonempty beginnings"."""
         return sheet.nodes_needed(self.kits.items())
 
+    def listed(self):
+        """The kits with at least one unit."""
+        return Contents(self.numbers, with_units(self.kits))
+
     def beginning_with(self, row):
-        """How many kits have this row as a beginning."""
-        return sum(row in beginnings([kit]) | {()} for kit in self.kits)
+        """How many kits with at least one unit have this row as a beginning."""
+        return sum(row in beginnings([kit]) | {()} for kit in self.listed().kits)
 
     def sheet(self):
         """The sheet that the document lays down for these contents."""
@@ -100,13 +107,30 @@ class Catalogue:
         self.theirs = {name: came.blocks[name] for name in TABLES}
         self.own = {name: right.blocks[name] for name in TABLES}
         self.contents.take_note(sent, came)
+        if self.told or (came.done() and letter in REPLACING):
+            self.check_root()
         if letter == "#" and came.done():
             self.check_count(units(lines_of_words(sent.blocks["L"])), came)
         return came
 
+    def check_root(self):
+        """The root has a tag just as long as an empty kit that was lent is not struck out."""
+        tag = self.theirs["N"][ROOT_TAG_AT]
+        if tag != self.contents.kits.get((), NO_TAG):
+            raise Different(["the root has tag %d; by calls and replies" % tag,
+                             "  %r" % self.contents])
+
+    def lend_empty_kit(self, tag):
+        """An empty kit under this tag, as a table from before request 14 has it at its root."""
+        for tables in (self.theirs, self.own):
+            row = nodes.nodes_of(tables["N"])
+            row[ROOT] = row[ROOT]._replace(tag=tag, tagged=row[ROOT].tagged + 1)
+            tables["N"] = nodes.words_of(row)
+        self.contents.kits[()] = tag
+
     def check_count(self, row, came):
         """A count is the number of kits, by calls and replies, that begin with the row."""
-        right, kits = self.contents.beginning_with(row), len(self.contents.kits)
+        right, kits = self.contents.beginning_with(row), len(self.contents.listed().kits)
         expect(came, DONE, right, "kits that begin with %s, of %r" % (row, self.contents))
         self.came_to(COUNTED["none"], right == 0 < kits)
         self.came_to(COUNTED["one"], right == 1)

@@ -42,6 +42,9 @@ LARGE_LENGTHS = [(MOST_NODES - 1) * NODE_WORDS, MOST_NODES * NODE_WORDS - 1,
 LONGEST_LIST = [1, 15, 2, 15, 3, 15, 4, 15, 5, 4]
 TOO_LONG_LIST = [1, 15, 2, 15, 3, 15, 4, 15, 5, 5]
 
+# Of so many lists by chance that are inserted one more is empty.
+EMPTY_LISTS = 12
+
 # How many lines long lists have ("Volunteers type .. forty"), and how many numbers odd ones.
 LINE_COUNTS = [1, 2, 40, 127, 4000]
 ODD_LENGTHS = [1, 3, 8191]
@@ -217,7 +220,7 @@ def list_limits():
 
 
 def insertions():
-    """9 before 10, 10 before 12, chains at their start, middle and end, and beginnings."""
+    """19, 9, 10 and 12 in order, chains at their start, middle and end, and beginnings."""
     four = parts_register(4)
     words = table(9, ((2,), 20), ((2, 2, 3), 23), ((4,), 40), ((1, 1), 11), ((), 7))
     tries = [
@@ -429,7 +432,7 @@ def large():
         yield Request("k", 60001, R=full, N=words, L=TOO_LONG_LIST, note="4096 nodes, " + kind)
         yield Request("e", R=full, N=words, note="4096 nodes, " + kind)
     every = large_table("every node a kit")
-    for room in (0, 1, 4095, 4096, 4097):
+    for room in (0, 1, 4094, 4095, 4096, 4097):
         for letter, listed in (("W", everything), ("C", [])):
             yield Request(letter, R=full, N=every, L=listed, P=[7] * room,
                           note="4096 kits into %d places" % room)
@@ -559,5 +562,7 @@ class Maker:
         chance = self.chance
         register, words, kits, parts = some_tables(chance, self.stock)
         output = chance.some_words(some_room(chance, kits)) if letter in "WC" else []
-        return Request(letter, some_tag(chance, kits), R=register, N=words,
-                       L=some_list(chance, kits, parts), P=output)
+        listed = some_list(chance, kits, parts)
+        if letter == "k" and chance.one_in(EMPTY_LISTS):
+            listed = []
+        return Request(letter, some_tag(chance, kits), R=register, N=words, L=listed, P=output)

@@ -6,13 +6,13 @@ from run.door import Different
 from second import index, nodes, sheet
 from second.kits import MOST_QUANTITY, MOST_UNITS, beginnings, lines_of_words, units
 from second.nodes import MOST_NODES
-from second.refusals import ALREADY_HELD, DONE, NO_ROOM, NOT_HELD, TAG_TAKEN
+from second.refusals import ALREADY_HELD, DONE, EMPTY_KIT, NO_ROOM, NOT_HELD, TAG_TAKEN
 from second.register import MOST_SLOTS
 from second.sheet import BYTE_PLACES
 
 from .carried import empty_catalogue, expect
 from .index_requests import LONGEST_LIST, TOO_LONG_LIST
-from .reached import ENTERED_AGAIN, LACKED_ONE_NODE, TOOK_LAST_NODE
+from .reached import EMPTY_STRUCK, ENTERED_AGAIN, LACKED_ONE_NODE, TOOK_LAST_NODE
 from .register_requests import many_numbers
 from .short_cases import DELETE, SHORT_CASES
 from .tables import large_table, some_new_tag, some_row
@@ -25,6 +25,9 @@ FEW_PARTS = 20
 
 # How often a row that takes just so many nodes is looked for.
 TRIES = 12
+
+# Of so many sequences one goes on with a table that has an empty kit.
+TURNS_TO_LEND = 4
 
 
 def fixed(door):
@@ -72,7 +75,7 @@ def last_free_node(door):
     longest = units(lines_of_words(LONGEST_LIST))
     calls = [
         ("k", longest, 1, DONE, MOST_UNITS), ("k", (5,), 2, NO_ROOM, 1),
-        ("k", (5, 5), 2, NO_ROOM, 2), ("k", longest[:-1], 2, DONE, 0), ("k", (), 3, DONE, 0),
+        ("k", (5, 5), 2, NO_ROOM, 2), ("k", longest[:-1], 2, DONE, 0), ("k", (), 3, EMPTY_KIT, 0),
         ("d", longest, 0, DONE, 1), ("k", (5, 5), 4, NO_ROOM, 1), ("k", (5,), 4, DONE, 1),
         ("k", longest, 1, NO_ROOM, 1), ("d", (5,), 0, DONE, 4), ("k", longest, 1, DONE, 1),
         ("d", longest[:-1], 0, DONE, 2), ("d", longest, 0, DONE, 1), ("k", (5, 5), 4, DONE, 2),
@@ -89,16 +92,17 @@ COUNTED_CALLS = [
     ("k", (1, 1, 2), 7, DONE, 3, [1, 1, 1, 1, 0, 0, 0]),
     ("k", (1,), 9, DONE, 0, [2, 2, 1, 1, 0, 0, 0]),
     ("k", (1,), 8, ALREADY_HELD, 9, [2, 2, 1, 1, 0, 0, 0]),
-    ("k", (), 5, DONE, 0, [3, 2, 1, 1, 0, 0, 0]),
-    ("k", (1, 2), 7, TAG_TAKEN, 0, [3, 2, 1, 1, 0, 0, 0]),
-    ("k", (1, 2), 6, DONE, 1, [4, 3, 1, 1, 1, 0, 0]),
-    ("k", (2, 2), 4, NO_ROOM, 1, [4, 3, 1, 1, 1, 0, 0]),
-    ("k", (3,), 4, DONE, 1, [5, 3, 1, 1, 1, 0, 1]),
-    ("d", (1, 1), 0, NOT_HELD, 0, [5, 3, 1, 1, 1, 0, 1]),
-    ("d", (1, 1, 2), 0, DONE, 7, [4, 2, 0, 0, 1, 0, 1]),
-    ("d", (1,), 0, DONE, 9, [3, 1, 0, 0, 1, 0, 1]),
-    ("k", (2, 2), 7, DONE, 2, [4, 1, 0, 0, 1, 1, 1]),
-    ("d", (), 0, DONE, 5, [3, 1, 0, 0, 1, 1, 1]),
+    ("k", (), 5, EMPTY_KIT, 0, [2, 2, 1, 1, 0, 0, 0]),
+    ("k", (1, 2), 7, TAG_TAKEN, 0, [2, 2, 1, 1, 0, 0, 0]),
+    ("k", (1, 2), 6, DONE, 1, [3, 3, 1, 1, 1, 0, 0]),
+    ("k", (2, 2), 4, NO_ROOM, 1, [3, 3, 1, 1, 1, 0, 0]),
+    ("k", (3,), 4, DONE, 1, [4, 3, 1, 1, 1, 0, 1]),
+    ("k", (), 4, EMPTY_KIT, 0, [4, 3, 1, 1, 1, 0, 1]),
+    ("d", (1, 1), 0, NOT_HELD, 0, [4, 3, 1, 1, 1, 0, 1]),
+    ("d", (1, 1, 2), 0, DONE, 7, [3, 2, 0, 0, 1, 0, 1]),
+    ("d", (1,), 0, DONE, 9, [2, 1, 0, 0, 1, 0, 1]),
+    ("k", (2, 2), 7, DONE, 2, [3, 1, 0, 0, 1, 1, 1]),
+    ("d", (), 0, NOT_HELD, 0, [3, 1, 0, 0, 1, 1, 1]),
     ("d", (1, 2), 0, DONE, 6, [2, 0, 0, 0, 0, 1, 1]),
     ("d", (3,), 0, DONE, 4, [1, 0, 0, 0, 0, 1, 0]),
     ("d", (2, 2), 0, DONE, 7, [0, 0, 0, 0, 0, 0, 0]),
@@ -219,7 +223,7 @@ class Steps:
             self.insert(row, self.chance.pick((tag, self.new_tag())))
 
     def insert_beginning(self):
-        """A beginning of a held kit, which takes no node, or the empty kit."""
+        """A beginning of a held kit, which takes no node, or the empty list, which is refused."""
         self.insert(self.some_beginning(), self.new_tag())
 
     def insert_last(self):
@@ -250,6 +254,7 @@ class Steps:
     def delete(self, row):
         """One deletion; what is struck out may come in again."""
         came = self.catalogue.call_on("d", row)
+        self.catalogue.came_to(EMPTY_STRUCK, came.done() and not row)
         if came.done():
             self.struck = self.struck[1 - REMEMBERED_KITS:] + [(row, came.value)]
 
@@ -290,12 +295,14 @@ EMPTYING = ([Steps.delete_held] * 6 + [Steps.delete_beginning] * 2 + [Steps.inse
 
 
 def by_chance(door, kind):
-    """One sequence of this kind by chance."""
+    """One sequence of this kind by chance, now and then from a table on that has an empty kit."""
     chance = door.chance
     parts = chance.pick(kind.parts)
     slots = min(MOST_SLOTS, parts + chance.below(2))
     catalogue = empty_catalogue(door, slots, chance.pick(kind.node_counts))
     with_parts(catalogue, parts)
+    if chance.one_in(TURNS_TO_LEND):
+        catalogue.lend_empty_kit(some_new_tag(chance, {}))
     bring_on(catalogue, kind)
 
 

@@ -2,7 +2,8 @@
 
 A list's check and its units show where it is inserted; its quantities by what kits lack beside it;
 how two rows stand to each other by what one adds to the other, by whether one begins the other, by
-the sheet of both and by reading the two as records; inclusion by the questions.
+the sheet of both and by reading the two as records; inclusion by the questions. An empty list is
+refused where it is inserted, and as a kit held it is passed over.
 """
 
 from functools import lru_cache

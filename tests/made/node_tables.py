@@ -1,7 +1,8 @@
 """Node tables, right and damaged, each with its kind, and the calls that show a verdict on it.
 
 An insertion of many units shows whether the table is sound, by 2 or another answer, and then by
-12 or the table how many of its nodes are free. The count for the empty list shows the root's word.
+12 or the table how many of its nodes are free; beside no parts there is the empty list alone, which
+is refused. The count for the empty list shows the root's word, less its own tag.
 """
 
 from collections import namedtuple

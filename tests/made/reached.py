@@ -11,9 +11,9 @@ from itertools import product
 from second.desk import (
     CALL_LETTERS, LIST_LETTERS, LONGEST_LINE, NODES, OTHER_LINE, SHEET_BYTES, SLOTS, SPACE)
 from second.refusals import (
-    ALREADY_HELD, BAD_NUMBER, BAD_ORDER, BAD_QUANTITY, DONE, NO_ROOM, NOT_HELD, NOT_SOUND,
-    PUNCTUATION_AT_END, SHEET_AT_FAULT, TAG_TAKEN, TAG_ZERO, TOO_FAR_SHORT, TOO_MANY_UNITS,
-    WRONG_LENGTH)
+    ALREADY_HELD, BAD_NUMBER, BAD_ORDER, BAD_QUANTITY, DONE, EMPTY_KIT, NO_ROOM, NOT_HELD,
+    NOT_SOUND, PUNCTUATION_AT_END, SHEET_AT_FAULT, TAG_TAKEN, TAG_ZERO, TOO_FAR_SHORT,
+    TOO_MANY_UNITS, WRONG_LENGTH)
 
 from .many_parts import EDGE_PLACES
 from .many_ways import BEHIND, WIDE_CUT, sizes_read
@@ -78,7 +78,7 @@ NUMBERS = {
     "p": TABLES | {BAD_NUMBER, PUNCTUATION_AT_END, ALREADY_HELD, NO_ROOM},
     "l": TABLES | {BAD_NUMBER, NOT_HELD},
     "n": TABLES | {NOT_HELD},
-    "k": TABLES | LIST | {TOO_MANY_UNITS, TAG_ZERO, ALREADY_HELD, TAG_TAKEN, NO_ROOM},
+    "k": TABLES | LIST | {TOO_MANY_UNITS, TAG_ZERO, EMPTY_KIT, ALREADY_HELD, TAG_TAKEN, NO_ROOM},
     "f": TABLES | LIST | {NOT_HELD},
     "d": TABLES | LIST | {NOT_HELD},
     "w": TABLES | LIST,
@@ -198,6 +198,10 @@ COUNTED_BEHIND = {**{letter: "kits counted behind an accepted " + letter for let
 VERSIONS_WRITTEN = {1: "sheets of version 1 written and read again",
                     2: "sheets of version 2 written and read again"}
 ALL_SLOTS_TAKEN = "catalogues of 4,000 parts were carried on"
+EMPTY_STRUCK = "empty kits of old tables were struck out"
+OLD_TABLES_WRITTEN = "old tables with an empty kit were written without it and read again"
+OLD_SHEETS_READ = "old sheets with an empty kit were read"
+OLD_SHEETS_WRITTEN = "old sheets with an empty kit were read and written without it"
 ENDED_ALIKE = "pairs ended alike"
 ENDED_APART = "pairs ended apart"
 SEQUENCES = "sequences"
@@ -207,7 +211,8 @@ def sequences_reached():
     """What sequences of calls come to."""
     numbers = {letter: row - {WRONG_LENGTH, NOT_SOUND} for letter, row in NUMBERS.items()}
     turns = {TOOK_LAST_NODE, LACKED_ONE_NODE, ENTERED_AGAIN, ALMOST_FILLED, BROUGHT_IN, ENDED_ALIKE,
-             ENDED_APART, ALL_SLOTS_TAKEN, *VERSIONS_WRITTEN.values(), *COUNTED.values(),
+             ENDED_APART, ALL_SLOTS_TAKEN, EMPTY_STRUCK, OLD_TABLES_WRITTEN, OLD_SHEETS_READ,
+             OLD_SHEETS_WRITTEN, *VERSIONS_WRITTEN.values(), *COUNTED.values(),
              *COUNTED_BEHIND.values()}
     return Reached(answers(numbers) | {(SEQUENCES, turn) for turn in turns})
 
@@ -217,14 +222,14 @@ def sequences_reached():
 LOOKED_UP = {BAD_NUMBER, NOT_HELD}
 DESK_NUMBERS = {
     "P": {DONE, BAD_NUMBER, PUNCTUATION_AT_END, ALREADY_HELD, NO_ROOM},
-    "K": {DONE, TOO_MANY_UNITS, TAG_ZERO, ALREADY_HELD, TAG_TAKEN, NO_ROOM,
+    "K": {DONE, TOO_MANY_UNITS, TAG_ZERO, EMPTY_KIT, ALREADY_HELD, TAG_TAKEN, NO_ROOM,
           BAD_ORDER, BAD_QUANTITY} | LOOKED_UP,
     **{letter: {DONE, BAD_ORDER, BAD_QUANTITY} | LOOKED_UP for letter in LIST_LETTERS},
     "W": {DONE, NO_ROOM},
 }
 # Those that lines by chance come to often.
 OFTEN = {**{letter: {DONE} for letter in CALL_LETTERS}, "P": {DONE, ALREADY_HELD},
-         "K": {DONE, BAD_ORDER, ALREADY_HELD, NOT_HELD}, "F": {DONE, NOT_HELD},
+         "K": {DONE, BAD_ORDER, EMPTY_KIT, ALREADY_HELD, NOT_HELD}, "F": {DONE, NOT_HELD},
          "D": {DONE, BAD_ORDER, NOT_HELD}}
 OTHERS = "?"
 EMPTY, OVERLONG, EMPTY_FIELD, OTHER = (
@@ -237,7 +242,7 @@ LIMIT_REPLIES = {
     ("P", DONE, SLOTS): "the last slot",
     ("W", DONE, SHEET_BYTES): "a sheet of 8,192 bytes",
     ("W", NO_ROOM, SHEET_BYTES + 1): "a sheet one byte too long",
-    ("s", DONE, NODES): "as many kits as nodes",
+    ("s", DONE, NODES - 1): "a kit for each node but the root",
     ("K", NO_ROOM, 1): "one node too few",
     **{(letter, *fault): ON_LINE % fault for letter in "K" + LIST_LETTERS for fault in SAID_LINES},
 }

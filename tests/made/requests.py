@@ -4,8 +4,8 @@ from run.frame import COUNT, REQUEST_HEAD, ROOM, element_bytes, pack_request
 from second.lent import REQUEST_BLOCKS, WORD_BLOCKS, Request
 
 from . import (
-    almost_requests, count_requests, index_requests, many_parts, register_requests, sheet_requests,
-    version_requests)
+    almost_requests, count_requests, empty_requests, index_requests, many_parts, register_requests,
+    sheet_requests, version_requests)
 from .chance import Chance
 
 # Who makes the requests of each letter by chance. Each maker's fixed requests are its limits
@@ -18,7 +18,7 @@ MAKERS = [
     ("sr", sheet_requests),
 ]
 # Makers of fixed requests alone, of several letters.
-FIXED_MAKERS = [many_parts, version_requests]
+FIXED_MAKERS = [many_parts, version_requests, empty_requests]
 
 # The blocks that each call uses; it must leave the others as they are.
 USES = {

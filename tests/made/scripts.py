@@ -170,6 +170,87 @@ W 0 40 4B4954000100040643443430313607\
 43442D343031360743442E343031360743442F343031360000
 """
 
+# Request 14: an empty kit is refused whatever its tag, but for tag 0, and nothing of it is found,
+# listed or written. The replies are worked out by hand for tables that are empty at first.
+EMPTY_KIT_INPUT = b"""\
+K 5
+K 0
+K 65535
+K 65536
+K
+F
+D
+B
+S
+b
+s
+P 4011
+K 5
+K 0
+K 5 4011 0
+K 0 4011 1
+K 5 4012 1
+K 5 4011 1
+K 5
+K 6
+K 0
+K 6 4011 1
+K 5 4011 2
+F
+D
+B
+S
+b
+s
+B 4011 1
+b 4011 1
+W
+D 4011 1
+K 5
+B
+s
+W
+"""
+EMPTY_KIT_OUTPUT = b"""\
+K 19 0
+K 8 0
+K 19 0
+?
+?
+F 11 0
+D 11 0
+B 0 0
+S 0 0
+b 0 0
+s 0 0
+P 0 1
+K 19 0
+K 8 0
+K 6 1
+K 8 0
+K 11 0
+K 0 1
+K 19 0
+K 19 0
+K 8 0
+K 9 5
+K 10 0
+F 11 0
+D 11 0
+B 0 0
+S 0 5
+b 0 0
+s 0 1 5
+B 0 5
+b 0 1 5
+W 0 19 4B495400010001043430313100010005010101
+D 0 5
+K 19 0
+B 0 0
+s 0 0
+W 0 14 4B49540001000104343031310000
+"""
+
 LETTERS = "".join(CALL_LETTERS)
 MILLION = 1_000_000
 
@@ -232,11 +313,12 @@ def fixed():
     yield "every byte first and in the middle", text(*every_byte(b"%sX", b"X%sX"), b"W")
     yield "two spellings", SPELLINGS_INPUT
     yield "a torn label", TORN_LABEL_INPUT
+    yield "an empty kit", EMPTY_KIT_INPUT
     yield "the last slot", text(*last_slot())
     yield "the last node", text(*last_node())
     for size in (SHEET_BYTES - 1, SHEET_BYTES, SHEET_BYTES + 1):
         yield "a sheet of %d bytes" % size, text(*sheet_of_size(size))
-    yield "as many kits as nodes", text(*many_kits())
+    yield "a kit for each node but the root", text(*many_kits())
 
 
 def ends_of_input():
@@ -380,7 +462,7 @@ def faults_in_forty():
 
 
 def units_and_order():
-    """64 and 65 units, and 8, 7, 9 and 10 before one another."""
+    """64 and 65 units, none, and 8, 7, 19, 9 and 10 before one another."""
     numbers = [b"A", b"B", b"C", b"D", b"E"]
     yield from registering(numbers)
     most = (1,) * 15 + (2,) * 15 + (3,) * 15 + (4,) * 15
@@ -481,7 +563,10 @@ def last_node():
 
 
 def sheet_of_size(size):
-    """A catalogue whose sheet has just so many bytes, and then more."""
+    """A catalogue whose sheet has just so many bytes, and then more.
+
+    An empty kit, which would have a record of three bytes, is refused.
+    """
     numbers = [number.rjust(LONGEST_NUMBER, b"0") for number in many_numbers(SLOTS)]
     yield from registering(numbers)
     # Mark, version and both counts, and the parts; then 5 bytes for a line, 7 for two.
@@ -501,11 +586,13 @@ def sheet_of_size(size):
     yield b"K 9999"
     yield b"W"
     yield b"D"
-    yield b"W"
+    for letter in (b"K 9999", b"D"):
+        yield letter + listed((SLOTS,) * 4, numbers)
+        yield b"W"
 
 
 def many_kits():
-    """As many kits as there are nodes, the empty one among them, and all of them listed."""
+    """A kit for each node but the root, whose empty kit is refused, and all of them listed."""
     numbers = [b"%d" % at for at in range(137)]
     yield from registering(numbers)
     yield b"K 60000"
@@ -537,7 +624,7 @@ def stored():
     return EXAMPLE_INPUT + text(
         *questions(), *line_lengths(), *stray_bytes(), *field_counts(), *tags_and_quantities(),
         *lookups(), *units_and_order()
-    ) + SPELLINGS_INPUT + TORN_LABEL_INPUT + text(
+    ) + SPELLINGS_INPUT + TORN_LABEL_INPUT + EMPTY_KIT_INPUT + text(
         *part_numbers(), *last_node(), *last_slot()) + long_line(1025)
 
 

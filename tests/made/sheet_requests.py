@@ -5,7 +5,7 @@ from itertools import product
 
 from run.frame import ROOM
 from second import calls, index, nodes, sheet
-from second.kits import lines_of
+from second.kits import lines_of, listing_order
 from second.lent import Request
 from second.nodes import MOST_NODES, NODE_WORDS
 from second.refusals import NO_ROOM
@@ -51,6 +51,17 @@ def sheet_of(part_numbers, records, parts=None, kits=None, mark=b"KIT", version=
         sheet.two_bytes(len(records) if kits is None else kits), *records, end])
 
 
+def old_sheet(part_numbers, kits):
+    """The sheet of these kits as it was before request 14: with the record of an empty kit."""
+    version = sheet.version_for(len(part_numbers))
+    return sheet_of(part_numbers, records_of(version, kits), version=version.number)
+
+
+def records_of(version, kits):
+    """The records of all these kits on a sheet of this version, that of an empty one too."""
+    return [record(tag, *lines_of(row), version=version) for row, tag in listing_order(kits)]
+
+
 THREE = [b"00741", b"741", b"4016"]
 FIVE = [b"1", b"2", b"3", b"4", b"5"]
 SMALL_SHEETS = [PRINTED_SHEET, sheet_of([b"A", b"B"], [record(3), record(258, (1, 2), (2, 1))])]
@@ -81,7 +92,8 @@ def written_rooms():
     """Sheets into an output exactly full, one short, empty, and with room behind."""
     catalogues = [
         ("empty", filled([], 1), [0] * NODE_WORDS),
-        ("the empty kit", filled([], 2), table(1, ((), 65535))),
+        ("an empty kit alone", filled([], 2), table(1, ((), 65535))),
+        ("an empty kit and others", filled(THREE, 4), table(5, ((2,), 5), ((1,), 9), ((), 7))),
         ("parts alone", filled(THREE, 4), [0] * 2 * NODE_WORDS),
         ("two spellings", filled([b"74ls00", b"74LS00"], 2), table(3, ((2,), 5), ((1,), 9))),
         ("printed", filled(THREE, 4), table(5, ((2,), 5), ((1,), 9))),
@@ -167,9 +179,20 @@ def brought_in():
 
 ONE_KIT = record(1, (1, 1))
 RECORD_FAULTS = {
+    "the empty kit alone": [record(5)],
     "the empty kit first": [record(5), ONE_KIT],
+    "the empty kit before two": [record(5), ONE_KIT, record(2, (2, 1))],
     "the empty kit second": [ONE_KIT, record(5)],
+    "the empty kit third": [ONE_KIT, record(2, (2, 1)), record(5)],
     "the empty kit twice": [record(5), record(6)],
+    "the empty kit twice before another": [record(5), record(6), ONE_KIT],
+    "the empty kit and its tag twice": [record(5), record(5)],
+    "the empty kit's tag at once again": [record(5), record(5, (1, 1))],
+    "the empty kit's tag again later": [record(5), ONE_KIT, record(5, (2, 1))],
+    "the empty kit with tag 0": [record(0), ONE_KIT],
+    "the empty kit with tag 65535": [record(65535), ONE_KIT],
+    "the empty kit before a record at fault": [record(5), record(1, (1, 16))],
+    "the empty kit before a kit twice": [record(5), ONE_KIT, record(2, (1, 1))],
     "tag 0": [record(0, (1, 1))],
     "tag 65535": [record(65535, (1, 1))],
     "a repeated tag": [ONE_KIT, record(1, (1, 2))],
@@ -317,7 +340,8 @@ def large():
     full = parts_register(BYTE_PLACES, BYTE_PLACES)
     for kind in LARGE_KINDS:
         words = large_table(kind)
-        written = sheet.written(numbers_of(full), nodes.held_kits(words))
+        held = nodes.held_kits(words)
+        written = sheet.written(numbers_of(full), held)
         size = len(written)
         for room in {0, min(size - 1, ROOM["O"]), min(size, ROOM["O"]), ROOM["O"]}:
             yield Request("s", R=full, N=words, O=b"\x5a" * room, note="write 4096 nodes, " + kind)
@@ -325,6 +349,9 @@ def large():
             for slots, node_count in ((255, 4096), (254, 4096), (255, 4095), (255, 4094)):
                 yield reading(written, slots, node_count, "read 4096 nodes, " + kind)
             yield reading(written[:-1], 255, 4096, "read 4096 nodes, torn")
+        old = old_sheet(numbers_of(full), {(): 65534, **held})
+        for node_count in (4096, 4095) if len(old) <= ROOM["I"] else ():
+            yield reading(old, 255, node_count, "read 4096 nodes and an empty kit, " + kind)
     for kind in ("singles", "pairs", "long"):
         data = long_sheet(kind)
         for slots, node_count in ((255, 4096), (254, 4096), (255, 3826), (255, 3825)):
@@ -377,7 +404,7 @@ class Maker:
         """A sheet to read, whole or altered, into tables of about the room that it needs."""
         chance = self.chance
         part_numbers, kits = self.contents()
-        data = sheet.written(part_numbers, kits)
+        data = old_sheet(part_numbers, kits)
         for _ in range(chance.pick((0, 0, 1, 1, 2))):
             data = self.altered(data, part_numbers, kits)
         slots = max(1, len(part_numbers) + chance.pick((-1, 0, 0, 0, 1, 2)))
@@ -423,8 +450,7 @@ class Maker:
         if way == 4:
             return data[:at] + data[at + chance.between(1, 3):]
         version = sheet.version_for(len(part_numbers))
-        records = [record(tag, *lines_of(row), version=version)
-                   for row, tag in sorted(kits.items())]
+        records = records_of(version, kits)
         part_numbers = list(part_numbers)
         if way == 5 and len(records) > 1:
             one, other = chance.below(len(records)), chance.below(len(records))

@@ -14,8 +14,9 @@ from second.register import MOST_SLOTS, SLOT_BYTES, punctuation_at_end
 from .almost_requests import some_question
 from .carried import Catalogue, Contents, empty_catalogue, expect
 from .index_requests import QUESTION_LETTERS, some_list, some_room, some_tag
-from .reached import ALMOST_FILLED, BROUGHT_IN, ENDED_ALIKE, ENDED_APART
+from .reached import ALMOST_FILLED, BROUGHT_IN, ENDED_ALIKE, ENDED_APART, OLD_SHEETS_READ
 from .register_requests import ALIKE
+from .sheet_requests import old_sheet
 from .tables import some_new_tag, some_row
 
 # The most calls that a catalogue may need from anywhere to its aim.
@@ -35,12 +36,17 @@ def some_number(chance, numbers):
             return number
 
 
+def may_be_entered(row):
+    """Whether insertion takes a kit of this row."""
+    return 0 < len(row) <= MOST_UNITS
+
+
 def some_kits(chance, parts, count):
     """About so many kits of these parts that share beginnings, with tags."""
     kits = {}
     for _ in range(count):
         row = some_row(chance, sorted(kits), parts)
-        if len(row) <= MOST_UNITS and row not in kits:
+        if may_be_entered(row) and row not in kits:
             kits[row] = some_new_tag(chance, kits)
     return kits
 
@@ -111,7 +117,7 @@ def with_parts_swapped_in_kits(chance, contents):
 def with_kit_more(chance, contents):
     """One kit more, near the others where that is new."""
     row = some_row(chance, sorted(contents.kits), len(contents.numbers))
-    if len(row) <= MOST_UNITS:
+    if may_be_entered(row):
         contents.kits.setdefault(row, some_new_tag(chance, contents.kits))
 
 
@@ -121,10 +127,10 @@ def with_kit_less(chance, contents):
 
 
 def with_kit_changed(chance, contents):
-    """One tag on another kit."""
+    """One tag on another kit, or on none."""
     tag = contents.kits.pop(chance.pick(sorted(contents.kits)))
     row = some_row(chance, sorted(contents.kits), len(contents.numbers))
-    if len(row) <= MOST_UNITS:
+    if may_be_entered(row):
         contents.kits.setdefault(row, tag)
 
 
@@ -139,6 +145,11 @@ def with_tags_swapped(chance, contents):
     one, other = chance.pick(rows), chance.pick(rows)
     kits = contents.kits
     kits[one], kits[other] = kits[other], kits[one]
+
+
+def with_empty_kit(chance, contents):
+    """An old sheet of these contents and of an empty kit under another tag."""
+    return old_sheet(contents.numbers, {**contents.kits, (): some_new_tag(chance, contents.kits)})
 
 
 def on_parts(row, parts):
@@ -232,14 +243,20 @@ class Walk:
         self.catalogue.call(letter, O=self.chance.some_bytes(room))
 
     def read(self, letter):
-        """A sheet that is at fault, or too large, or whose parts begin as the aim's."""
-        whole = self.chance.pick((self.contents(), self.sheet_on_the_way())).sheet()
+        """A sheet that is at fault, or too large, or whose parts begin as the aim's.
+
+        Some are old ones with an empty kit, which is dropped.
+        """
+        contents = self.chance.pick((self.contents(), self.sheet_on_the_way()))
+        whole, old = contents.sheet(), with_empty_kit(self.chance, contents)
         too_many = Contents(b"%d" % at for at in range(self.catalogue.slots() + 1))
-        sheets = [whole, whole, whole[:self.chance.below(len(whole))], whole + b"\0",
+        sheets = [whole, whole, old, whole[:self.chance.below(len(whole))], whole + b"\0",
                   whole[:4] + b"\2" + whole[5:]]
         if len(too_many.numbers) <= MOST_SLOTS:
             sheets.append(too_many.sheet())
-        self.catalogue.call(letter, I=self.chance.pick(sheets))
+        data = self.chance.pick(sheets)
+        came = self.catalogue.call(letter, I=data)
+        self.catalogue.came_to(OLD_SHEETS_READ, came.done() and data == old)
 
     def sheet_on_the_way(self):
         """Contents whose parts begin as the aim's, with kits of the aim and others."""
@@ -347,12 +364,12 @@ def list_all(catalogue):
 
 
 def count_all(catalogue):
-    """Every kit begins with nothing, and every one but the empty kit with just one part."""
+    """Every kit begins with nothing, and every one with just one part."""
     kits = catalogue.contents.kits
     expect(catalogue.call_on("#", ()), DONE, len(kits), "all kits counted")
     places = range(1, len(catalogue.contents.numbers) + 1)
     counts = [catalogue.call_on("#", (place,)).value for place in places]
-    if sum(counts) != len(kits) - (() in kits):
+    if sum(counts) != len(kits):
         raise Different(["kits by the part that they begin with: %s; by calls and replies" % counts,
                          "  %r" % catalogue.contents])
 

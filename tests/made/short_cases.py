@@ -3,10 +3,10 @@
 WITHIN, CONTAINING, DELETE = "within", "containing", "delete"
 
 # Document 01's table. The answer to a deletion is the nodes used after it; to a question, the
-# kits in order.
+# kits in order. By request 14 "document 01's empty kit within an empty bin now answers none".
 SHORT_CASES = [
     ([], WITHIN, (1,), []),
-    ([()], WITHIN, (), [()]),
+    ([()], WITHIN, (), []),
     ([()], CONTAINING, (1,), []),
     ([(1,), (1, 1)], WITHIN, (1,), [(1,)]),
     ([(1,), (1, 1)], CONTAINING, (1,), [(1,), (1, 1)]),
@@ -29,12 +29,13 @@ PRINTED_STEPS = [
 ]
 
 # Kits that a bin almost fills, worked out by hand: the kits held, the bin's units, the most that
-# a kit may lack, and the kits in order, each with its shortfall.
+# a kit may lack, and the kits in order, each with its shortfall. An empty kit is passed over.
 ALMOST_CASES = [
     ([], (1,), 64, []),
-    ([()], (), 0, [((), 0)]),
-    ([(), (1,)], (), 0, [((), 0)]),
-    ([(), (1,)], (), 1, [((), 0), ((1,), 1)]),
+    ([()], (), 0, []),
+    ([()], (1,), 64, []),
+    ([(), (1,)], (), 0, []),
+    ([(), (1,)], (), 1, [((1,), 1)]),
     # 3 of part 1 and 1 of part 2 beside 2 of part 1 and 5 of part 3: one of each is lacking
     ([(1, 1, 1, 2)], (1, 1, 3, 3, 3, 3, 3), 1, []),
     ([(1, 1, 1, 2)], (1, 1, 3, 3, 3, 3, 3), 2, [((1, 1, 1, 2), 2)]),
@@ -54,12 +55,15 @@ ALMOST_CASES = [
     ([(1, 1, 1), (1, 2), (2, 2)], (2,), 1, [((1, 2), 1), ((2, 2), 1)]),
 ]
 
-# Kits that begin with a list, worked out by hand: the kits held, the list's units, how many.
+# Kits that begin with a list, worked out by hand: the kits held, the list's units, how many. An
+# empty kit is not counted.
 COUNT_CASES = [
     ([], (), 0),
     ([], (1,), 0),
-    ([()], (), 1),
+    ([()], (), 0),
     ([()], (1,), 0),
+    ([(), (1,)], (), 1),
+    ([(), (1,)], (1,), 1),
     ([(1,)], (), 1),
     ([(1,)], (1,), 1),
     ([(1,)], (2,), 0),
@@ -78,6 +82,6 @@ COUNT_CASES = [
     ([(1,), (1, 1), (1, 1, 1), (2,)], (), 4),
     ([(), (1, 2, 3), (2,), (2, 3)], (2,), 2),
     ([(), (1, 2, 3), (2,), (2, 3)], (3,), 0),
-    ([(), (1, 2, 3), (2,), (2, 3)], (), 4),
+    ([(), (1, 2, 3), (2,), (2, 3)], (), 3),
     ([(), (1, 2, 3), (2,), (2, 3)], (1, 2, 3), 1),
 ]

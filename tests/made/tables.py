@@ -128,7 +128,10 @@ def long_paths(chance, node_count):
 
 
 class Stock:
-    """Catalogues that grow and shrink from request to request, as calls would bring them on."""
+    """Catalogues that grow and shrink from request to request, as calls would bring them on.
+
+    Some have an empty kit, which calls entered before request 14.
+    """
 
     def __init__(self, chance):
         self.chance = chance

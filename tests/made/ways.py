@@ -6,7 +6,8 @@ Each takes a request and its right answer, and gives the ways by name with wheth
 from second import index, nodes, questions, register, sheet
 from second.calls import MOST_SHORT
 from second.kits import (
-    LEAST_QUANTITY, MOST_QUANTITY, MOST_UNITS, beginnings, first_fault, lines_of_words, units)
+    LEAST_QUANTITY, MOST_QUANTITY, MOST_UNITS, beginnings, first_fault, lines_of_words, units,
+    with_units)
 from second.lent import Answer, Request
 from second.nodes import FREE, MOST_NODES, NODE_WORDS, NONE, ROOT
 from second.refusals import (
@@ -15,6 +16,8 @@ from second.refusals import (
 from second.register import LONGEST_NUMBER, PUNCTUATION, SLOT_BYTES
 
 from .counts import by_parents, counted
+from .empty_ways import (
+    TWICE, dropped, empty_found, empty_refused, exact_room, left_out, passed_over, replaced)
 from .many_ways import (
     BY_CHANCE_TOO, PART_COUNT_AT, hashes_lent, hashes_read, last_of_all, parts_lent, places_listed,
     places_shown, places_told, sizes_read, sizes_written, slots_lent, versions_read,
@@ -297,7 +300,7 @@ def almost_filled(asked, came):
 def kits_counted(asked, came):
     """How many kits begin with the list, and how it stands to them."""
     words, done = asked.blocks["N"], came.done()
-    held = nodes.held_kits(words) if done and words else {}
+    held = with_units(nodes.held_kits(words)) if done and words else {}
     row = units(lines_of_words(asked.blocks["L"])) if done else ()
     none, some = done and came.value == 0, done and came.value > 0
     return {
@@ -370,15 +373,20 @@ def names_of(row):
 # The limits of documents 01 and 02, as ways of each call.
 BOTH_TABLES = [tables_lent, wrong_counts]
 AND_LIST = [*BOTH_TABLES, list_given]
+# An empty kit would answer w, W and a by every list, and c, C and # by the empty list alone.
+OVER, OVER_BY_EMPTY = passed_over(True), passed_over(False)
+NO_PLACE = exact_room("P")
 LIMITS = {
-    "e": [emptied], "p": [number_given, letters_given, registered, ends_refused],
+    "e": [emptied, replaced], "p": [number_given, letters_given, registered, ends_refused],
     "l": [number_given, letters_given, looked_up], "n": [place_given],
-    "k": [*AND_LIST, entered], "f": AND_LIST, "d": [*AND_LIST, struck_out],
-    "w": [*AND_LIST, first_found], "c": [*AND_LIST, first_found],
-    "W": [*AND_LIST, output_into("P")], "C": [*AND_LIST, output_into("P")],
-    "a": [*AND_LIST, almost_filled], "#": [*AND_LIST, kits_counted],
-    "s": [*BOTH_TABLES, output_into("O"), versions_written],
-    "r": [sheet_read, numbers_read, versions_read],
+    "k": [*AND_LIST, entered, empty_refused], "f": [*AND_LIST, empty_found],
+    "d": [*AND_LIST, struck_out, empty_found],
+    "w": [*AND_LIST, first_found, OVER], "c": [*AND_LIST, first_found, OVER_BY_EMPTY],
+    "W": [*AND_LIST, output_into("P"), OVER, NO_PLACE],
+    "C": [*AND_LIST, output_into("P"), OVER_BY_EMPTY, NO_PLACE],
+    "a": [*AND_LIST, almost_filled, OVER, NO_PLACE], "#": [*AND_LIST, kits_counted, OVER_BY_EMPTY],
+    "s": [*BOTH_TABLES, output_into("O"), versions_written, left_out],
+    "r": [sheet_read, numbers_read, versions_read, replaced, dropped],
 }
 # Those that take large requests too, for each of the calls that have the way beside them.
 LARGE = {
@@ -391,8 +399,12 @@ LARGE = {
 ALL_WAYS = {letter: ways + [large for way in ways for large in LARGE.get(way, [])]
             for letter, ways in LIMITS.items()}
 # Of these the stored run has all: with more of them it would be another one.
-STORED_WAYS = {"e": [emptied], "a": [almost_filled], "#": [wrong_counts, kits_counted],
-               "s": [versions_written], "r": [versions_read]}
+STORED_WAYS = {
+    "e": [emptied, replaced], "k": [empty_refused], "f": [empty_found], "d": [empty_found],
+    "w": [OVER], "c": [OVER_BY_EMPTY], "W": [OVER, NO_PLACE], "C": [OVER_BY_EMPTY, NO_PLACE],
+    "a": [almost_filled, OVER, NO_PLACE], "#": [wrong_counts, kits_counted, OVER_BY_EMPTY],
+    "s": [versions_written, left_out], "r": [versions_read, replaced, dropped],
+}
 # Ways that requests by chance hardly ever go: registers are small there.
 OF_MANY_PARTS = [last_of_all, slots_lent, parts_lent, places_told, places_shown, places_listed,
                  hashes_lent, versions_written, sizes_written, versions_read, sizes_read,
@@ -404,5 +416,5 @@ LEFT_TO_LIMITS = {
     "line 256 of 4,000 at fault", "two lines at fault, and the first is said",
     "an odd list of 8,191 numbers", "an odd list with a line at fault before",
     "64 units counted", "64 units that no kit has", "65 units",
-    *names_of(OF_MANY_PARTS) - BY_CHANCE_TOO,
+    *names_of(OF_MANY_PARTS) - BY_CHANCE_TOO, TWICE,
 }

@@ -151,12 +151,11 @@ static size_t walk_chain(const Walk *walk, size_t n, unsigned at, Passed before)
     return n;
 }
 
-// The same walk over the same nodes.
+// The same walk over the same nodes, from below the root on: an empty kit is passed over.
 static size_t walk_in_c(const Table *table, const Question *question, uint16_t d)
 {
     Walk walk = walk_of(table, question, d);
-    size_t n = walk.nodes->tag ? put(0, walk.room, walk.nodes->tag, 0) : 0;
-    return walk_chain(&walk, n, walk.nodes->first_child, (Passed){0, 0, 0});
+    return walk_chain(&walk, 0, walk.nodes->first_child, (Passed){0, 0, 0});
 }
 
 // What a quantity is beyond another, never below zero; without a branch, which is faster here.

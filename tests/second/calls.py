@@ -3,7 +3,7 @@
 from . import index, kits, nodes, questions, register, sheet
 from .lent import ANSWER_BLOCKS, Answer
 from .refusals import (
-    ALREADY_HELD, BAD_NUMBER, DONE, NO_ROOM, NOT_HELD, NOT_SOUND, PUNCTUATION_AT_END,
+    ALREADY_HELD, BAD_NUMBER, DONE, EMPTY_KIT, NO_ROOM, NOT_HELD, NOT_SOUND, PUNCTUATION_AT_END,
     SHEET_AT_FAULT, TAG_TAKEN, TAG_ZERO, TOO_FAR_SHORT, TOO_MANY_UNITS, WRONG_LENGTH, Refusal)
 
 # "a number d from 0 to 64"
@@ -88,7 +88,11 @@ def empty_tables(request):
 
 
 def insert_kit(request):
-    """Insert list and tag: nodes newly taken. After the tables come 8, 4 to 6, 7, 9, 10, 12."""
+    """Insert list and tag: nodes newly taken.
+
+    After the tables come 8, 4 to 6, 7, 19, 9, 10, 12: "Insertion no longer takes" an empty kit,
+    also where one is held or the tag is taken.
+    """
     lent, tag = request.blocks, request.a
     parts = check_tables(lent)
     if tag == 0:
@@ -96,6 +100,8 @@ def insert_kit(request):
     row = kits.units(kits.checked_lines(lent["L"], parts))
     if len(row) > kits.MOST_UNITS:
         raise Refusal(TOO_MANY_UNITS)
+    if not row:
+        raise Refusal(EMPTY_KIT)
     held = nodes.held_kits(lent["N"])
     if row in held:
         raise Refusal(ALREADY_HELD, held[row])
@@ -109,7 +115,10 @@ def insert_kit(request):
 
 
 def held_row(request):
-    """The row and tag of the held kit that a list names; after the list checks comes 11."""
+    """The row and tag of the held kit that a list names; after the list checks comes 11.
+
+    "An empty kit already in a table can be found by its empty list and deleted".
+    """
     lent = request.blocks
     parts = check_tables(lent)
     row = kits.units(kits.checked_lines(lent["L"], parts))
@@ -209,7 +218,8 @@ def write_sheet(request):
 def read_sheet(request):
     """Read a sheet: kits read. The order is 1 for each table, then 13, then 12.
 
-    "Reading leaves the tables as if emptied, then filled in sheet order."
+    "Reading leaves the tables as if emptied, then filled in sheet order." An empty kit is dropped,
+    takes no node beyond the root and is not counted "among the kits read".
     """
     lent = request.blocks
     check_lengths(lent)

@@ -1,6 +1,7 @@
 """Insertion and deletion in a sound node table, word for word as document 01 lays down.
 
-What request 7 counts is not carried along: behind each change all nodes are counted again.
+What request 7 counts is not carried along: behind each change all nodes are counted again. The
+empty row is entered like any other, though no call does since request 14: old tables have it.
 """
 
 from .nodes import FREE, NO_TAG, NONE, ROOT, Node, chain, counted, nodes_of, words_of

@@ -1,4 +1,7 @@
-"""Lists, their units, inclusion and listing order, as "Kits and bins" in document 01 says."""
+"""Lists, their units, inclusion and listing order, as "Kits and bins" in document 01 says.
+
+Request 14 parts the kits that are held from those with at least one unit, of which all else speaks.
+"""
 
 from collections import Counter
 
@@ -94,6 +97,11 @@ def listing_order(held):
     how python compares tuples.
     """
     return sorted(held.items())
+
+
+def with_units(held):
+    """The held kits but the empty one: "Listings, .. any-kit answers and counts pass over it"."""
+    return {row: tag for row, tag in held.items() if row}
 
 
 def agreed(row, other):

@@ -18,6 +18,8 @@ SHEET_AT_FAULT = 13
 TOO_FAR_SHORT = 14
 # Request 6: "new 16, on registration only, after 3 and before 9".
 PUNCTUATION_AT_END = 16
+# Request 14: "new 19, on inserting it .., after 7 and before 9".
+EMPTY_KIT = 19
 
 
 class Refusal(Exception):

@@ -1,9 +1,13 @@
-"""The KIT sheet of document 01 and request 10: written from numbers and kits, read item by item."""
+"""The KIT sheet of document 01 and requests 10 and 14.
+
+It is written from numbers and kits, and read item by item.
+"""
 
 from collections import namedtuple
 
 from .kits import (
-    LEAST_QUANTITY, MOST_QUANTITY, MOST_UNITS, beginnings, lines_of, listing_order, units)
+    LEAST_QUANTITY, MOST_QUANTITY, MOST_UNITS, beginnings, lines_of, listing_order, units,
+    with_units)
 from .register import MOST_SLOTS, good_number
 
 MARK = b"KIT"
@@ -43,13 +47,14 @@ def has_parts(version, parts):
 
 
 def written(numbers, held):
-    """The sheet of these part numbers and held kits."""
+    """The sheet of these part numbers and held kits; an empty kit the writer "leaves .. out"."""
+    listed = with_units(held)
     version = version_for(len(numbers))
     items = [MARK, two_bytes(version.number), two_bytes(len(numbers))]
     for number in numbers:
         items.append(bytes([len(number)]) + number)
-    items.append(two_bytes(len(held)))
-    for row, tag in listing_order(held):
+    items.append(two_bytes(len(listed)))
+    for row, tag in listing_order(listed):
         items.append(record(version, tag, lines_of(row)))
     return b"".join(items)
 
@@ -91,7 +96,10 @@ class Items:
 
 
 def read(data):
-    """The part numbers and the kits (rows with tags, in sheet order), or the first fault."""
+    """The part numbers and the kits (rows with tags, in sheet order), or the first fault.
+
+    An empty kit on an old sheet is a record like any other, and when all are good it is dropped.
+    """
     items = Items(data)
     items.begin()
     if items.take(len(MARK)) != MARK:
@@ -103,7 +111,7 @@ def read(data):
     # "The end is at fault when bytes remain."
     if items.at != len(data):
         raise items.fault()
-    return numbers, kits
+    return numbers, [(row, tag) for row, tag in kits if row]
 
 
 def read_version(items):
@@ -139,7 +147,7 @@ def read_numbers(items, version):
 
 
 def read_kits(items, version, parts):
-    """The kit count and the kits, rows with tags."""
+    """The kit count and the kits, rows with tags, an empty one among them."""
     items.begin()
     count = items.take_number(TWO_BYTES)
     kits = []

@@ -28,9 +28,10 @@ done-or-refused (v.NoRoom x) = inr (omega arith, refl)
 done-or-refused (v.Fault x) = inr (omega arith, refl)
 done-or-refused v.TooFar = inr (omega arith, refl)
 done-or-refused v.Punctuated = inr (omega arith, refl)
+done-or-refused v.NoUnits = inr (omega arith, refl)
 
--- the answers in the order of their numbers, each with the value x where it carries one; no answer has the number 15, and `TooFar`
--- stands there
+-- the answers in the order of their numbers, each with the value x where it carries one; no answer has the number 15, 17 or 18, and
+-- `TooFar` stands there
 inOrder : ℕ → List Answer
 inOrder x =
     v.Done x
@@ -50,6 +51,9 @@ inOrder x =
     ∷ v.TooFar
     ∷ v.TooFar
     ∷ v.Punctuated
+    ∷ v.TooFar
+    ∷ v.TooFar
+    ∷ v.NoUnits
     ∷ []
 
 answerOf : Reply → Answer
@@ -73,6 +77,7 @@ answer-back (v.NoRoom x) = refl
 answer-back (v.Fault x) = refl
 answer-back v.TooFar = refl
 answer-back v.Punctuated = refl
+answer-back v.NoUnits = refl
 
 -- the reply determines the answer
 pub reply-determines : (a b : Answer) → reply a ≡ reply b → a ≡ b

@@ -1,8 +1,7 @@
 // Document 01, the table of refusals, and what the requests added to it: what every call of the house answers, from the register to the catalogue, and
 // the number and value of each answer as a program writes them.
 ghost use mathlib.Core.Path.{_≡_};
-ghost use Rattle.ground.specs.Calls as paper;
-ghost use Rattle.ground.specs.Calls.{isRefused};
+ghost use Rattle.ground.specs.Calls.{isRefused, numberOf, valueOf};
 ghost use Rattle.answers.specs.Answers.{reply};
 ghost use Rattle.answers.specs.Inner.{Means};
 
@@ -32,6 +31,8 @@ pub enum Answer {
     TooFar,
     // a number to register with punctuation at an end
     Punctuated,
+    // a kit to insert without a unit
+    NoUnits,
 }
 
 pub fn refused(a: Answer) -> bool
@@ -54,8 +55,11 @@ pub fn refused(a: Answer) -> bool
         Answer::Fault(_) => true,
         Answer::TooFar => true,
         Answer::Punctuated => true,
+        Answer::NoUnits => true,
     }
 }
+
+const DONE: u8 = 0;
 
 const WRONG_LENGTH: u8 = 1;
 
@@ -87,44 +91,70 @@ const TOO_FAR: u8 = 14;
 
 const PUNCTUATED: u8 = 16;
 
+const NO_UNITS: u8 = 19;
+
 // A number, 0 for done, and a value.
 pub struct Reply {
     pub number: u8,
     pub value: usize,
 }
 
-fn done(value: usize) -> Reply
-    ensures { λ r. ⌜ Means r (paper.done value) ⌝ }
+// The number of an answer.
+fn number_of(a: Answer) -> u8
+    ensures { λ r. ⌜ r ≡ numberOf (reply a) ⌝ }
 {
-    Reply { number: 0, value }
+    match a {
+        Answer::Done(_) => DONE,
+        Answer::WrongLength => WRONG_LENGTH,
+        Answer::NotSound => NOT_SOUND,
+        Answer::BadNumber => BAD_NUMBER,
+        Answer::Unordered(_) => UNORDERED,
+        Answer::Unregistered(_) => UNREGISTERED,
+        Answer::Amount(_) => AMOUNT,
+        Answer::TooMany => TOO_MANY,
+        Answer::NoTag => NO_TAG,
+        Answer::Held(_) => HELD,
+        Answer::TagBorne => TAG_BORNE,
+        Answer::NotHeld => NOT_HELD,
+        Answer::NoRoom(_) => NO_ROOM,
+        Answer::Fault(_) => FAULT,
+        Answer::TooFar => TOO_FAR,
+        Answer::Punctuated => PUNCTUATED,
+        Answer::NoUnits => NO_UNITS,
+    }
 }
 
-fn refusal(number: u8, value: usize) -> Reply
-    ensures { λ r. ⌜ Means r (paper.refused number value) ⌝ }
+// What an answer carries, 0 where it carries nothing.
+fn value_of(a: Answer) -> usize
+    ensures { λ r. ⌜ r ≡ valueOf (reply a) ⌝ }
 {
-    Reply { number, value }
+    match a {
+        Answer::Done(v) => v,
+        Answer::WrongLength => 0,
+        Answer::NotSound => 0,
+        Answer::BadNumber => 0,
+        Answer::Unordered(v) => v,
+        Answer::Unregistered(v) => v,
+        Answer::Amount(v) => v,
+        Answer::TooMany => 0,
+        Answer::NoTag => 0,
+        Answer::Held(v) => v,
+        Answer::TagBorne => 0,
+        Answer::NotHeld => 0,
+        Answer::NoRoom(v) => v,
+        Answer::Fault(v) => v,
+        Answer::TooFar => 0,
+        Answer::Punctuated => 0,
+        Answer::NoUnits => 0,
+    }
 }
 
 // An answer as it is printed.
 pub fn reply_of(a: Answer) -> Reply
     ensures { λ r. ⌜ Means r (reply a) ⌝ }
 {
-    match a {
-        Answer::Done(v) => done(v),
-        Answer::WrongLength => refusal(WRONG_LENGTH, 0),
-        Answer::NotSound => refusal(NOT_SOUND, 0),
-        Answer::BadNumber => refusal(BAD_NUMBER, 0),
-        Answer::Unordered(v) => refusal(UNORDERED, v),
-        Answer::Unregistered(v) => refusal(UNREGISTERED, v),
-        Answer::Amount(v) => refusal(AMOUNT, v),
-        Answer::TooMany => refusal(TOO_MANY, 0),
-        Answer::NoTag => refusal(NO_TAG, 0),
-        Answer::Held(v) => refusal(HELD, v),
-        Answer::TagBorne => refusal(TAG_BORNE, 0),
-        Answer::NotHeld => refusal(NOT_HELD, 0),
-        Answer::NoRoom(v) => refusal(NO_ROOM, v),
-        Answer::Fault(v) => refusal(FAULT, v),
-        Answer::TooFar => refusal(TOO_FAR, 0),
-        Answer::Punctuated => refusal(PUNCTUATED, 0),
+    Reply {
+        number: number_of(a),
+        value: value_of(a),
     }
 }

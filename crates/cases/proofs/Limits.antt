@@ -33,7 +33,7 @@ room-limits = (refl, refl, refl, refl, refl, refl)
 order-of-refusals : OrderOfRefusals
 unfolding opened fiveParts twoKits
 order-of-refusals =
-    (refl, refl, refl, refl, refl, refl, refl, refl, refl, refl, refl, refl, refl, refl, refl, refl, refl, refl, refl, refl, refl, refl, refl)
+    (refl, refl, refl, refl, refl, refl, refl, refl, refl, refl, refl, refl, refl, refl, refl, refl, refl, refl, refl, refl, refl, refl, refl, refl, refl)
 
 node-words : NodeWords
 unfolding opened wordsAfter

@@ -13,7 +13,8 @@ use Rattle.nodes.specs.Nodes.{nodesLength, nodesOf, othersOf, zeroWord, isFree,
 use Rattle.nodes.specs.Nodes.{chain, children, upward, isUnder, tagsUnder}
 use Rattle.nodes.specs.Sound.{rootGood, parentGood, depthGood, labelGood, fewEqual, linksInside, childGood, nextGood, onChain}
 use Rattle.nodes.specs.Sound.{endTagged, tagsDiffer, tallyGood, usedOthers, nodesSound}
-use Rattle.nodes.specs.Held.{putKit, inOrder, tagIn, tagsOf, kitAt, held, firstTag, beginnings, addNew, allBeginnings, beginsWith, countBeginning}
+use Rattle.nodes.specs.Held.{putKit, inOrder, tagIn, tagsOf, kitAt, held, someUnit, listed, firstTag, beginnings, addNew, allBeginnings, beginsWith}
+use Rattle.nodes.specs.Held.{countBeginning}
 use Rattle.index_links.specs.Links.{hasLabel, childWith, lastBelow, linkTo, link, unlink, nodeOf, recount}
 use Rattle.index_insert.specs.Enter.{lowestFree, enterBelow, enter, lacks, enterAll}
 use Rattle.index_delete.specs.Strike.{prune, strikeAt, strike}
@@ -37,7 +38,7 @@ unfolding allb anyb every keep distinct concat eqList from firstOr laid decide a
     registerSound placeFrom placeIn registerOf lentRegister punctuationAtEnd numberRefusals registering lookingUp showing lineValue lineFaults
     linesFaults listFaults units count noMore includes before linesFrom listOf caseTest goodList begins nodesLength nodesOf othersOf zeroWord
     isFree isUsed freeNodes usedNodes tagged path rowOf chain children upward isUnder tagsUnder rootGood parentGood depthGood labelGood fewEqual linksInside
-    childGood nextGood onChain endTagged tagsDiffer tallyGood usedOthers nodesSound putKit inOrder tagIn tagsOf kitAt held firstTag beginnings
+    childGood nextGood onChain endTagged tagsDiffer tallyGood usedOthers nodesSound putKit inOrder tagIn tagsOf kitAt held someUnit listed firstTag beginnings
     addNew allBeginnings beginsWith countBeginning hasLabel childWith lastBelow linkTo link unlink nodeOf lowestFree enterBelow enter recount lacks
     enterAll prune strikeAt strike
     entryRefusals missingRefusals isWithin isContaining fitting allOf anyOf sumOver lacking shortfall shortOf isAlmost shortsOf inBytes

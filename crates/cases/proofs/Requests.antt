@@ -1,9 +1,10 @@
--- The cases of requests 3, 6 and 7, computed.
+-- The cases of requests 3, 6, 7 and 14, computed.
 use mathlib.Core.Path.{refl}
 use Rattle.demands.specs.Before.{goodByteBefore, goodNumberBefore, newNumberBefore, numbersBefore, frontBefore, decodeBefore}
-use Rattle.cases.specs.ShortCases.{insertRows, holding}
+use Rattle.cases.specs.ShortCases.{insertRows, holding, holdingEmpty, listedOf}
 use Rattle.cases.specs.Limits.{fiveParts}
 use Rattle.cases.specs.Requests.{BeforeCases, tornTables, TornCases, counted, countedLess, CountCases}
+use Rattle.cases.specs.Requests.{fromBefore, emptyGone, readBefore, EmptyCases}
 use Rattle.cases.proofs.Opened.{opened}
 
 pub before-cases : BeforeCases
@@ -16,4 +17,8 @@ torn-cases = (refl, refl, refl, refl, refl, refl)
 
 pub count-cases : CountCases
 unfolding opened insertRows holding counted countedLess fiveParts
-count-cases = (refl, refl, refl, refl, refl, refl, refl, refl, refl)
+count-cases = (refl, refl, refl, refl, refl, refl, refl, refl)
+
+pub empty-cases : EmptyCases
+unfolding opened insertRows holding holdingEmpty listedOf fromBefore emptyGone readBefore
+empty-cases = (refl, refl, refl, refl, refl, refl, refl, refl, refl, refl, refl, refl, refl, refl, refl, refl, refl, refl)

@@ -158,7 +158,8 @@ RoomLimits =
 
 ------------------------------------------------------------------------
 -- "Order: 1 register, 1 nodes, 2 register, 2 nodes (of the tables lent), then 8; then 4 for odd length; .. then 7, 9, 10, 11, 12. For numbers:
--- 3, then 9 or 11, then 12. Reading: 1 for each table, then 13, then 12": two faults at once, and the first is answered
+-- 3, then 9 or 11, then 12. Reading: 1 for each table, then 13, then 12", and request 14's "19 .., after 7 and before 9": two faults at once, and the
+-- first is answered
 
 -- a register of one slot that is not sound, and a node table of one node that is not
 abbrev pub badRegister : List ℕ
@@ -177,6 +178,9 @@ OrderOfRefusals =
     × (answer (inserting [] 0 (tables (replicate 32 0) badNodes)) ≡ refused 2 0)
     × (answer (inserting (1 ∷ []) 0 twoKits) ≡ refused 8 0)
     × (answer (inserting (sixtyAnd 16) 7 (fiveParts 1)) ≡ refused 6 5)
+    -- 8 and 19; 19 and 10 (19 and 9: Requests, `EmptyCases`)
+    × (answer (inserting [] 0 twoKits) ≡ refused 8 0)
+    × (answer (inserting [] 2 twoKits) ≡ refused 19 0)
     -- 7 and 12; 9 and 10; 10 and 12; 12 alone
     × (answer (inserting (sixtyAnd 5) 7 (fiveParts 1)) ≡ refused 7 0)
     × (answer (inserting (1 ∷ 1 ∷ []) 2 twoKits) ≡ refused 9 1)

@@ -1,20 +1,21 @@
--- What requests 3, 6 and 7 ask, in literal numbers. Computed. The law that proves a statement stands behind "Proof", in proofs/Requests.
+-- What requests 3, 6, 7 and 14 ask, in literal numbers. Computed. The law that proves a statement stands behind "Proof", in proofs/Requests.
 use mathlib.Core.Path.{_≡_}
 use mathlib.Core.Bool.{true}
 use mathlib.Core.List.{List, [], _∷_, map}
-use Prim.Native.Nat.{ℕ}
+use Prim.Native.Nat.{ℕ, _*_}
 use lib.ListN.{replicate}
-use Rattle.ground.specs.Calls.{Reply, done, refused, answer, memory}
+use Rattle.ground.specs.Calls.{Reply, done, refused, answer, memory, both}
 use Rattle.ground.specs.Tables.{Tables, tables}
 use Rattle.register.specs.Register.{registerSound}
 use Rattle.kits.specs.Kits.{listOf}
 use Rattle.nodes.specs.Nodes.{wordsPerNode}
+use Rattle.questions.specs.Questions.{isWithin, isContaining}
 use Rattle.sheet.specs.Reading.{item, fault, decode}
-use Rattle.catalogue.specs.Calls.{registerPart, lookUp, showAt, planOf, deleting, reading, writing, counting}
+use Rattle.catalogue.specs.Calls.{registerPart, lookUp, showAt, planOf, inserting, finding, deleting, anyKit, almostKits, reading, writing, counting}
 use Rattle.demands.specs.Model.{has}
 use Rattle.demands.specs.Before.{decodeBefore}
-use Rattle.cases.specs.ShortCases.{holding, exampleSheet, exampleSays}
-use Rattle.cases.specs.Limits.{badRegister, fiveParts, sixtyAnd}
+use Rattle.cases.specs.ShortCases.{holding, holdingEmpty, listedOf, exampleSheet, exampleSays}
+use Rattle.cases.specs.Limits.{emptyTables, badRegister, fiveParts, sixtyAnd}
 
 ------------------------------------------------------------------------
 -- Request 3: the rule before the small letters
@@ -72,9 +73,8 @@ countedLess r = let T = holding threeRows in answer (counting (listOf r) (memory
 -- [14.16] Proof: `count-cases`
 abbrev pub CountCases : Type 0
 CountCases =
-    -- no kit; the empty kit
+    -- no kit
     (map (counted []) ([] ∷ (1 ∷ []) ∷ []) ≡ done 0 ∷ done 0 ∷ [])
-    × (map (counted ([] ∷ [])) ([] ∷ (1 ∷ []) ∷ []) ≡ done 1 ∷ done 0 ∷ [])
     -- (1), (1, 1), (2): all, those below a kit and the kit itself, a kit alone; beyond a kit, beside one, nowhere
     × (map (counted threeRows) ([] ∷ (1 ∷ []) ∷ (1 ∷ 1 ∷ []) ∷ (2 ∷ []) ∷ []) ≡ done 3 ∷ done 2 ∷ done 1 ∷ done 1 ∷ [])
     × (map (counted threeRows) ((1 ∷ 1 ∷ 1 ∷ []) ∷ (1 ∷ 2 ∷ []) ∷ (3 ∷ []) ∷ []) ≡ replicate 3 (done 0))
@@ -86,3 +86,61 @@ CountCases =
     × (answer (counting (sixtyAnd 5) (fiveParts 1)) ≡ done 0)
     × (map (λ l. answer (counting l (fiveParts 1))) ((1 ∷ []) ∷ (6 ∷ 1 ∷ []) ∷ (1 ∷ 16 ∷ []) ∷ []) ≡ refused 4 1 ∷ refused 5 1 ∷ refused 6 1 ∷ [])
     × (answer (counting (1 ∷ []) (tables badRegister (fiveParts 1 .nodes))) ≡ refused 2 0)
+
+------------------------------------------------------------------------
+-- Request 14: an empty kit is no kit
+
+-- the parts A, B and C, and four nodes from before: the empty kit with the tag 7 at the root, and the kits (1) and (1, 3)
+unfoldable pub fromBefore : Tables
+fromBefore = tables (holding [] .register)
+    (0 ∷ 1 ∷ 0 ∷ 0 ∷ 0 ∷ 7 ∷ 3
+    ∷ 0 ∷ 2 ∷ 0 ∷ 1 ∷ 1 ∷ 9 ∷ 2
+    ∷ 1 ∷ 0 ∷ 0 ∷ 3 ∷ 2 ∷ 5 ∷ 1
+    ∷ replicate 7 0)
+
+-- after the empty kit was deleted
+unfoldable pub emptyGone : Tables
+emptyGone = memory (deleting [] fromBefore) fromBefore
+
+-- its sheet, which does not have the empty kit, and the sheet that a program from before wrote of it
+abbrev pub sheetNow : List ℕ
+sheetNow =
+    0x4B ∷ 0x49 ∷ 0x54 ∷ 0 ∷ 1 ∷ 0 ∷ 3 ∷ 1 ∷ 0x41 ∷ 1 ∷ 0x42 ∷ 1 ∷ 0x43 ∷ 0 ∷ 2
+    ∷ 0 ∷ 9 ∷ 1 ∷ 1 ∷ 1
+    ∷ 0 ∷ 5 ∷ 2 ∷ 1 ∷ 1 ∷ 3 ∷ 1 ∷ []
+
+abbrev pub sheetBefore : ℕ → List ℕ
+sheetBefore t =
+    0x4B ∷ 0x49 ∷ 0x54 ∷ 0 ∷ 1 ∷ 0 ∷ 3 ∷ 1 ∷ 0x41 ∷ 1 ∷ 0x42 ∷ 1 ∷ 0x43 ∷ 0 ∷ 3
+    ∷ 0 ∷ t ∷ 0
+    ∷ 0 ∷ 9 ∷ 1 ∷ 1 ∷ 1
+    ∷ 0 ∷ 5 ∷ 2 ∷ 1 ∷ 1 ∷ 3 ∷ 1 ∷ []
+
+unfoldable pub readBefore : ℕ → Tables
+readBefore t = let T = tables (replicate 96 7) (replicate (3 * wordsPerNode) 7) in memory (reading (sheetBefore t) T) T
+
+-- [14.16] Proof: `empty-cases`
+abbrev pub EmptyCases : Type 0
+EmptyCases =
+    -- 19, where none is held and where one is, with a tag that is taken, by another kit or by it, and with one that is free; tag 0 is 8
+    (answer (inserting [] 5 (holding [])) ≡ refused 19 0)
+    × (map (λ t. answer (inserting [] t fromBefore)) (5 ∷ 7 ∷ 8 ∷ 0 ∷ []) ≡ refused 19 0 ∷ refused 19 0 ∷ refused 19 0 ∷ refused 8 0 ∷ [])
+    -- found by the empty list and deleted; its tag is taken until then, and free afterwards
+    × (answer (finding [] fromBefore) ≡ done 7)
+    × (answer (deleting [] fromBefore) ≡ done 7)
+    × (map (λ T. answer (inserting (2 ∷ 1 ∷ []) 7 T)) (fromBefore ∷ emptyGone ∷ []) ≡ refused 10 0 ∷ done 1 ∷ [])
+    × (answer (finding [] emptyGone) ≡ refused 11 0)
+    -- passed over by questions, near-fills and counts
+    × (map (λ l. answer (anyKit isWithin l fromBefore)) ([] ∷ (1 ∷ 1 ∷ []) ∷ []) ≡ done 0 ∷ done 9 ∷ [])
+    × (answer (anyKit isContaining [] fromBefore) ≡ done 9)
+    × (listedOf isWithin fromBefore [] ≡ (done 0, 0 ∷ 0 ∷ []))
+    × (listedOf isContaining fromBefore [] ≡ (done 2, 9 ∷ 5 ∷ []))
+    × (memory (almostKits 64 [] fromBefore (both (0 ∷ 0 ∷ []) (0 ∷ 0 ∷ []))) (both (0 ∷ 0 ∷ []) (0 ∷ 0 ∷ [])) ≡ both (9 ∷ 5 ∷ []) (1 ∷ 2 ∷ []))
+    × (map (λ l. answer (counting l fromBefore)) ([] ∷ (1 ∷ 1 ∷ []) ∷ []) ≡ done 2 ∷ done 2 ∷ [])
+    × (map (λ T. answer (counting [] T)) (holdingEmpty ∷ emptyGone ∷ []) ≡ done 0 ∷ done 2 ∷ [])
+    -- left out of the sheet; of an old one dropped, not counted, and not written again; but its tag must not be another kit's
+    × (memory (writing fromBefore (replicate 27 9)) (replicate 27 9) ≡ sheetNow)
+    × (answer (reading (sheetBefore 7) (emptyTables 3 3)) ≡ done 2)
+    × (memory (writing (readBefore 7) (replicate 27 9)) (replicate 27 9) ≡ sheetNow)
+    × (answer (finding [] (readBefore 7)) ≡ refused 11 0)
+    × (answer (reading (sheetBefore 9) (emptyTables 3 3)) ≡ refused 13 18)

@@ -28,9 +28,16 @@ holding rs =
       calls = registerPart (0x41 ∷ []) ∷ registerPart (0x42 ∷ []) ∷ registerPart (0x43 ∷ []) ∷ insertRows 1 rs;
     })
 
+-- the same parts and nodes, and the empty kit alone, which a table from before may hold: its tag, 1, stands at the root
+unfoldable pub holdingEmpty : Tables
+holdingEmpty = tables (holding [] .register) (0 ∷ 0 ∷ 0 ∷ 0 ∷ 0 ∷ 1 ∷ 1 ∷ replicate 21 0)
+
 -- all kits that answer a question on some units: the reply, and an output of two places
+unfoldable pub listedOf : Question → Tables → List ℕ → Reply × List ℕ
+listedOf question T r = let p = allKits question (listOf r) T (0 ∷ 0 ∷ []) in (answer p, memory p (0 ∷ 0 ∷ []))
+
 unfoldable pub listedBy : Question → List (List ℕ) → List ℕ → Reply × List ℕ
-listedBy question rs r = let p = allKits question (listOf r) (holding rs) (0 ∷ 0 ∷ []) in (answer p, memory p (0 ∷ 0 ∷ []))
+listedBy question rs r = listedOf question (holding rs) r
 
 -- a kit deleted: the reply, and the nodes used then
 unfoldable pub struck : List (List ℕ) → List ℕ → Reply × ℕ
@@ -41,10 +48,10 @@ abbrev pub ShortCases : Type 0
 ShortCases =
     -- none; within {1}; none
     (listedBy isWithin [] (1 ∷ []) ≡ (done 0, 0 ∷ 0 ∷ []))
-    -- (); within (); ()
-    × (listedBy isWithin ([] ∷ []) [] ≡ (done 1, 1 ∷ 0 ∷ []))
+    -- (); within (); none, since request 14: "document 01's empty kit within an empty bin now answers none"
+    × (listedOf isWithin holdingEmpty [] ≡ (done 0, 0 ∷ 0 ∷ []))
     -- (); containing {1}; none
-    × (listedBy isContaining ([] ∷ []) (1 ∷ []) ≡ (done 0, 0 ∷ 0 ∷ []))
+    × (listedOf isContaining holdingEmpty (1 ∷ []) ≡ (done 0, 0 ∷ 0 ∷ []))
     -- (1), (1, 1); within {1}; (1)
     × (listedBy isWithin ((1 ∷ []) ∷ (1 ∷ 1 ∷ []) ∷ []) (1 ∷ []) ≡ (done 1, 1 ∷ 0 ∷ []))
     -- (1), (1, 1); containing {1}; (1), (1, 1)

@@ -20,10 +20,11 @@ use Rattle.kits.specs.declared.Row.{Row}
 use Rattle.kits.proofs.Rows.{row-back}
 use Rattle.kits.proofs.Units.{good-row}
 use Rattle.nodes.specs.Inner.{Sound}
-use Rattle.nodes.specs.Held.{Kit, held, tagIn, countBeginning}
+use Rattle.nodes.specs.Held.{Kit, held, listed, tagIn, countBeginning}
 use Rattle.nodes.proofs.Held.{held-good}
 use Rattle.nodes.proofs.Listing.{tag-none}
 use Rattle.nodes.proofs.Tallies.{count-long}
+use Rattle.nodes.proofs.Units.{units-count}
 use Rattle.index_insert.specs.Enter.{enter, lacks}
 use Rattle.index.specs.Index.{entryRefusals, missingRefusals}
 use Rattle.index.specs.Inner.{insertingRow, findingRow, deletingRow}
@@ -140,17 +141,19 @@ module _ (R N : List ℕ) where
           (promise-part (tables R) (deletingRow (units l) N) N q N′ (rw row at p))
 
       -- Counting
-      pub count-done : (us : List ℕ) (n : ℕ) → isRefused r ≡ false → us ≡ units l → n ≡ countBeginning us (held N) →
+      pub count-done : (us : List ℕ) (n : ℕ) → isRefused r ≡ false → us ≡ units l → n ≡ countBeginning us (listed N) →
           done n ≡ answer (counting l (tables R N))
       unfolding counting answer
       count-done us n e row f =
-          ap done (f ∙ ap (λ (u : List ℕ). countBeginning u (held N)) row)
-          ∙ sym (whole-passes r (lentList (tables R N) l) 0 (countBeginning (units l) (held N)) is e)
+          ap done (f ∙ ap (λ (u : List ℕ). countBeginning u (listed N)) row)
+          ∙ sym (whole-passes r (lentList (tables R N) l) 0 (countBeginning (units l) (listed N)) is e)
 
       pub count-too-long : isRefused r ≡ false → Sound mostPlace N → leb (length (units l)) mostUnits ≡ false →
           done 0 ≡ answer (counting l (tables R N))
+      unfolding listed
       count-too-long e s h =
-          count-done (units l) 0 e refl (sym (count-long (s .shape) (units l) (leb-false (length (units l)) mostUnits h)))
+          let g = leb-false (length (units l)) mostUnits h in
+          count-done (units l) 0 e refl (sym (units-count (units l) (held N) (omega (arith, g)) ∙ count-long (s .shape) (units l) g))
 
       pub count-refused : isRefused r ≡ true → r ≡ answer (counting l (tables R N))
       unfolding counting answer

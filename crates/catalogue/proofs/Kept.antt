@@ -26,7 +26,7 @@ use Rattle.nodes.proofs.Fields.{length-sized, sized-length}
 use Rattle.index_insert.specs.Enter.{enter, lacks}
 use Rattle.index_delete.specs.Strike.{strike}
 use Rattle.index.specs.Inner.{insertingRow, deletingRow}
-use Rattle.index.proofs.Kept.{Accepted, accepted, deleting-tag, insert-sound, insert-length, delete-sound, delete-length}
+use Rattle.index.proofs.Kept.{Accepted, accepted, accepted-some-unit, deleting-tag, insert-sound, insert-length, delete-sound, delete-length}
 use Rattle.tables.specs.Lent.{partCount, lentBoth, lentList}
 use Rattle.tables.specs.Inner.{SoundTables}
 use Rattle.tables.proofs.Lent.{list-passed}
@@ -117,6 +117,7 @@ module _ (n R N : List ℕ) (v : ℕ) (e : answer (registering n R) ≡ done v) 
 pub record Insertion (l : List ℕ) (t : ℕ) (T : Tables) (v : ℕ) : Type 0 where
   pub good : goodList (partCount T) l ≡ true
   pub short : length (units l) ≤ mostUnits
+  pub some-unit : 0 < length (units l)
   pub some-tag : 0 < t
   pub accepted : Accepted (units l) t (T .nodes)
   pub takes : v ≡ lacks (T .nodes) 0 (units l)
@@ -132,6 +133,7 @@ insertion l t T v e =
     record {
       good = list-passed (partCount T) l (ap isRefused (f .0));
       short = ltb-false mostUnits (length (units l)) (s .0);
+      some-unit = accepted-some-unit (units l) (T .nodes) t v (s .1);
       some-tag = omega (arith, eqb-false t 0 (z .0));
       accepted = k .0;
       takes = k .1;

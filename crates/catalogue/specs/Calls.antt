@@ -12,13 +12,13 @@ use Rattle.register.specs.Register.{slotCount}
 use Rattle.register.specs.Calls.{registering, lookingUp, showing}
 use Rattle.kits.specs.Kits.{mostUnits, units, listFaults}
 use Rattle.nodes.specs.Nodes.{size}
-use Rattle.nodes.specs.Held.{Kit, held, tagIn, countBeginning}
+use Rattle.nodes.specs.Held.{Kit, held, listed, tagIn, countBeginning}
 use Rattle.index_insert.specs.Enter.{enter, lacks}
 use Rattle.index_delete.specs.Strike.{strike}
 use Rattle.index.specs.Index.{entryRefusals, missingRefusals}
 use Rattle.questions.specs.Questions.{isWithin, isContaining, anyOf, allOf}
 use Rattle.shortfalls.specs.Shortfalls.{mostShort, listAlmost}
-use Rattle.sheet.specs.Sheet.{Contents, contentsOf, encode}
+use Rattle.sheet.specs.Sheet.{Contents, contentsOf, withoutEmpty, encode}
 use Rattle.sheet.specs.Reading.{decode, said}
 use Rattle.sheet.specs.Calls.{sheetRefusals}
 use Rattle.sheet_read.specs.Filling.{filling}
@@ -40,7 +40,7 @@ unfoldable pub emptying : Tables → Plan Tables
 emptying T = plan (lengths T) 0 (tables (zeroed (T .register)) (zeroed (T .nodes)))
 
 -- [8.7, 8.8, 7.11, 10.2] "Insert list and tag: nodes newly taken": "then 8; then 4 for odd length; then line by line 4, 5, 6; then 7, 9,
--- 10, .., 12"
+-- 10, .., 12", and 19 "after 7 and before 9"
 unfoldable pub inserting : List ℕ → ℕ → Tables → Plan Tables
 inserting l t T =
     plan (lentBoth T
@@ -51,17 +51,17 @@ inserting l t T =
     (lacks (T .nodes) 0 (units l))
     (tables (T .register) (enter (T .nodes) (units l) t))
 
--- [10.3] "Find a list, delete a list: its tag"
+-- [10.3, 10.15] "Find a list, delete a list: its tag"
 unfoldable pub finding : List ℕ → Tables → Plan Tables
 finding l T = plan (lentList T l ++ missingRefusals (units l) (T .nodes)) (tagOf T l) T
 
--- [10.4] "delete a list: its tag"
+-- [10.4, 10.15] "delete a list: its tag"
 unfoldable pub deleting : List ℕ → Tables → Plan Tables
 deleting l T = plan (lentList T l ++ missingRefusals (units l) (T .nodes)) (tagOf T l) (tables (T .register) (strike (T .nodes) (units l)))
 
 -- [10.14] "A new call gives the count for a list's units as a beginning, 0 where no such path exists"
 unfoldable pub counting : List ℕ → Tables → Plan Tables
-counting l T = plan (lentList T l) (countBeginning (units l) (held (T .nodes))) T
+counting l T = plan (lentList T l) (countBeginning (units l) (listed (T .nodes))) T
 
 -- a question that is asked of a list's units and a kit: `isWithin`, `isContaining` or `isAlmost d`
 abbrev pub Question : Type 0
@@ -84,13 +84,13 @@ almostKits d l T o = listAlmost (lentList T l ++ (given (ltb mostShort d) 14 0 �
 unfoldable pub writing : Tables → List ℕ → Plan (List ℕ)
 writing T o = setDown (lentBoth T) (encode (contents T)) o
 
--- [10.11] "Read a sheet: kits read": "1 for each table, then 13, then 12"; "Reading leaves the tables as if emptied, then filled in sheet
--- order"
+-- [10.11, 12.20] "Read a sheet: kits read": "1 for each table, then 13, then 12"; "Reading leaves the tables as if emptied, then filled in sheet
+-- order"; of a sheet from before that has an empty kit, "drops it" and does not count it among the kits read
 unfoldable pub reading : List ℕ → Tables → Plan Tables
 reading s T =
     plan (lengths T ++ sheetRefusals s (slotCount (T .register)) (size (T .nodes)))
-    (length (said (decode s) .kits))
-    (filling (said (decode s)) T)
+    (length (withoutEmpty (said (decode s)) .kits))
+    (filling (withoutEmpty (said (decode s))) T)
 
 -- What a call that may write the tables promises of its answer and of the tables R′ and N′ afterwards
 abbrev pub Leaves : (Tables → Plan Tables) → List ℕ → List ℕ → Answer → List ℕ → List ℕ → Type 0

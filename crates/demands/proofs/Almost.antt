@@ -14,7 +14,7 @@ use Rattle.kits.specs.Kits.{mostPlace, units, listFaults}
 use Rattle.kits.specs.Inner.{GoodRow}
 use Rattle.nodes.specs.Held.{Kit, inOrder, tagsOf}
 use Rattle.nodes.proofs.Listing.{tags-long}
-use Rattle.nodes.proofs.Held.{held-good}
+use Rattle.nodes.proofs.Units.{listed-good}
 use Rattle.nodes.proofs.Beginnings.{widen}
 use Rattle.questions.specs.Questions.{allOf}
 use Rattle.shortfalls.specs.Shortfalls.{mostShort, shortfall, shortOf, isAlmost, shortsOf}
@@ -44,7 +44,7 @@ nothing-leaves d e bin m h = almost.almost-grows (units bin) (inOrder (m .kits))
 
 -- what a catalogue has are good rows
 good-rows : {T : Tables} {m : Contents} → Brought T m → (k : Kit) → List·Memᴰ k (inOrder (m .kits)) → GoodRow mostPlace (k .row)
-good-rows {T} b k i = held-good (widen (few-parts (T .register) (b .both .ready)) (b .both .sound) .shape) k (subst (List·Memᴰ k) (sym (b .kits)) i)
+good-rows {T} b k i = listed-good (widen (few-parts (T .register) (b .both .ready)) (b .both .sound) .shape) k (subst (List·Memᴰ k) (sym (b .kits)) i)
 
 pub zero-is-within : ZeroIsWithin
 unfolding answering

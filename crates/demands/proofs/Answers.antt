@@ -15,7 +15,7 @@ use Rattle.kits.specs.Kits.{Within, units, listFaults}
 use Rattle.nodes.specs.Held.{Kit, inOrder, tagsOf, firstTag}
 use Rattle.nodes.proofs.Sorted.{keep-mem, mem-keep, rising-keep}
 use Rattle.nodes.proofs.Listing.{order-mem, mem-order, order-rises}
-use Rattle.nodes.proofs.Held.{held-tagged}
+use Rattle.nodes.proofs.Units.{listed-tagged}
 use Rattle.questions.specs.Questions.{isWithin, isContaining, fitting, anyOf, allOf}
 use Rattle.sheet.specs.Sheet.{Contents}
 use Rattle.ground.specs.Tables.{Tables}
@@ -124,4 +124,4 @@ none-answers a question l h =
     let b = brought a h in
     no-first (answering question l (entered a)) (λ k i.
     let j = keep-mem (question (units l)) k (inOrder (entered a .kits)) i in
-    held-tagged (b .both .sound .shape) k (subst (List·Memᴰ k) (sym (b .kits)) (j .0)))
+    listed-tagged (b .both .sound .shape) k (subst (List·Memᴰ k) (sym (b .kits)) (j .0)))

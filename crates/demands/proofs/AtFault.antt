@@ -222,7 +222,7 @@ by-list : (c : Call) (l : List ℕ) (untagged : Bool) (T : Tables) → TakesList
 unfolding decide tablesThen planOf lengths lentBoth lentList inserting entryRefusals finding deleting missingRefusals counting anyKit allKits almostKits
     setDown setBoth
 by-list c l untagged T (to-insert t) =
-    record { cases = _; rest = _; above = also refl (also refl (also refl (also refl sorted.none))); parted = refl; decided = λ v. refl }
+    record { cases = _; rest = _; above = also refl (also refl (also refl (also refl (also refl sorted.none)))); parted = refl; decided = λ v. refl }
 by-list c l untagged T to-find = record { cases = _; rest = _; above = also refl sorted.none; parted = refl; decided = λ v. refl }
 by-list c l untagged T to-delete = record { cases = _; rest = _; above = also refl sorted.none; parted = refl; decided = λ v. refl }
 by-list c l untagged T to-count =

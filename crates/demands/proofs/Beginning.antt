@@ -11,7 +11,7 @@ use Rattle.ground.specs.Tables.{Tables}
 use Rattle.ground.proofs.Calls.{decide-behind}
 use Rattle.kits.specs.Kits.{begins, linesFaults, listFaults, units}
 use Rattle.kits.proofs.Order.{begins-front, begins-more}
-use Rattle.nodes.specs.Held.{Kit, countBeginning, held, inOrder, listed}
+use Rattle.nodes.specs.Held.{Kit, countBeginning, inOrder, listed}
 use Rattle.nodes.proofs.Tallies.{count-all, count-in-order, count-most, count-put}
 use Rattle.sheet.specs.Sheet.{Contents}
 use Rattle.tables.specs.Lent.{lentList}
@@ -27,7 +27,7 @@ count-says l T e = rw append-nil at (decide-behind (lentList T l) [] 0 (countBeg
 
 module _ {T : Tables} {m : Contents} (b : Brought T m) (l : List ℕ) where
   -- the order of entry does not tell
-  the-count : countBeginning (units l) (held (T .nodes)) ≡ countBeginning (units l) (m .kits)
+  the-count : countBeginning (units l) (listed (T .nodes)) ≡ countBeginning (units l) (m .kits)
   the-count = ap (countBeginning (units l)) (b .kits) ∙ count-in-order (units l) (m .kits)
 
   pub count-answer : answer (counting l T) ≡ decide (listFaults (length (m .parts)) l) (countBeginning (units l) (m .kits))

@@ -1,13 +1,14 @@
 -- What stays true of a catalogue that calls bring on: its tables are sound, and have the parts and the kits that its accepted calls left.
 use mathlib.Core.Path.{_≡_, refl, sym, ap, subst, _∙_}
-use mathlib.Core.Logic.{_≢_}
+use mathlib.Core.Logic.{_≢_, ⊎-elim}
 use mathlib.Core.Bool.{true}
-use mathlib.Core.List.{List, [], _∷_, _++_, List·Memᴰ, Memᴰ·cast}
+use mathlib.Core.List.{List, [], _∷_, _++_, List·Memᴰ, List·Memᴰ·not-nil, Memᴰ·cast}
 use Prim.Native.Nat.{ℕ, _+_, _*_, _<_}
 use native.Mathlib.Omega.{arith}
 use lib.ListN.{length, replicate, length-replicate}
 use borrow.Author.Tests.{ltb-true, not-false}
 use Rattle.ground.specs.Limits.{twoLimit}
+use Rattle.ground.specs.Lists.{keep}
 use Rattle.ground.specs.Laid.{zeroed}
 use Rattle.ground.specs.Calls.{Reply, done, refused, answer, leaves, memory}
 use Rattle.ground.proofs.Laws.{every-at}
@@ -20,23 +21,26 @@ use Rattle.kits.specs.Kits.{units}
 use Rattle.kits.specs.Inner.{GoodRow}
 use Rattle.kits.proofs.Units.{good-row}
 use Rattle.nodes.specs.Nodes.{wordsPerNode, nodesLength}
-use Rattle.nodes.specs.Held.{Kit, putKit, inOrder, dropKit, tagIn, held, allBeginnings}
-use Rattle.nodes.proofs.Sorted.{Every, Rising, none, also, ahead, mem-every, allb-mem}
-use Rattle.nodes.proofs.Listing.{Earlier, OtherRow, mem-order, tag-in}
+use Rattle.nodes.specs.Held.{Kit, putKit, inOrder, dropKit, tagIn, held, someUnit, withUnits, listed, allBeginnings}
+use Rattle.nodes.proofs.Sorted.{Every, Rising, none, also, ahead, mem-every, allb-mem, rising-keep}
+use Rattle.nodes.proofs.Listing.{Earlier, OtherRow, put-mem, drop-mem, mem-order, tag-in}
 use Rattle.nodes.proofs.Decided.{sound-exactly}
-use Rattle.nodes.proofs.Held.{kit, held-rows-differ, held-tagged}
+use Rattle.nodes.proofs.Held.{kit, held-rises, held-rows-differ, held-tagged}
 use Rattle.nodes.proofs.Empty.{zeros-hold-nothing}
+use Rattle.nodes.proofs.Units.{units-mem, units-beginnings, listed-mem, listed-rises}
 use Rattle.index_insert.specs.Enter.{enter, lacks}
 use Rattle.index_delete.specs.Strike.{strike}
-use Rattle.index.proofs.Kept.{accepted, insert-growth, held-after-insert, held-after-delete}
+use Rattle.index.proofs.Kept.{insert-growth, held-after-insert, listed-after-insert, held-after-delete, listed-after-delete}
 use Rattle.sheet.specs.Bytes.{Bytes}
-use Rattle.sheet.specs.Sheet.{Contents, encode}
+use Rattle.sheet.specs.Sheet.{Contents, withoutEmpty, encode}
 use Rattle.sheet.specs.Inner.{goodKit, fitsSheet}
 use Rattle.sheet.specs.Reading.{decode, said}
+use Rattle.sheet.proofs.Fits.{Fits, fitting-fits}
 use Rattle.sheet_read.specs.Filling.{filling}
 use Rattle.sheet_read.specs.Inner as read
 use Rattle.sheet_read.proofs.Reading as filled
-use Rattle.sheet_read.proofs.Listed.{Fits, fitting-fits, rising-earlier}
+use Rattle.sheet_read.proofs.Listed.{rising-earlier}
+use Rattle.sheet_read.proofs.RoundTrip.{SmallTags, words-small}
 use Rattle.ground.specs.Tables.{Tables, tables}
 use Rattle.tables.specs.Lent.{lengths}
 use Rattle.tables.specs.Inner.{SoundTables}
@@ -44,36 +48,53 @@ use Rattle.catalogue.proofs.Kept.{done-parts, same-register-length, same-nodes-
 use Rattle.catalogue.proofs.Kept.{empty-sound, register-keeps-sound, insert-keeps-sound, delete-keeps-sound}
 use Rattle.catalogue.specs.Calls.{Call, emptyBoth, registerPart, lookUp, showAt, insertKit, findKit, deleteKit, anyWithin, anyContaining}
 use Rattle.catalogue.specs.Calls.{allWithin, allContaining, allAlmost, writeSheet, readSheet, planOf, emptying, inserting, finding}
-use Rattle.catalogue.specs.Calls.{countKits, deleting, counting, anyKit, reading}
+use Rattle.catalogue.specs.Calls.{contents, countKits, deleting, counting, anyKit, reading}
 use Rattle.demands.specs.Model as demand
-use Rattle.demands.specs.Model.{has, listedIn, step, model, run, log, Catalogue, Allowed, begun}
+use Rattle.demands.specs.Model.{has, step, model, run, log, TypesSay, Words, Catalogue, Allowed, begun}
 use Rattle.demands.specs.Model.{tablesOf, entered}
-use Rattle.demands.proofs.Model.{apart, order-same, every-dropped, dropped-apart, order-dropped}
+use Rattle.demands.proofs.Model.{apart, order-same, dropped-apart, order-dropped}
 
--- a tag of two bytes
-abbrev pub SmallTag : Kit → Type 0
-SmallTag k = k .tag < twoLimit
-
--- tables that are sound and have some contents
+-- tables that are sound and have some contents: their kits are those with a unit, whether one without is held or not
 pub record Brought (T : Tables) (m : Contents) : Type 0 where
   pub both : SoundTables T
   pub parts : partsOf (T .register) ≡ m .parts
-  pub kits : held (T .nodes) ≡ inOrder (m .kits)
+  pub kits : listed (T .nodes) ≡ inOrder (m .kits)
   pub apart : Rising OtherRow (m .kits)
-  pub small : Every SmallTag (m .kits)
+  pub small : SmallTags (T .nodes)
+
+-- any sound tables have what they list
+pub has-its-own : (T : Tables) → SoundTables T → Words T → Brought T (contents T)
+has-its-own T s words =
+    let e = listed-rises (s .sound .shape) in
+    record {
+      both = s;
+      parts = refl;
+      kits = sym (order-same (listed (T .nodes)) e);
+      apart = apart e;
+      small = words-small (s .sound .shape) words;
+    }
 
 nothing-in-order : inOrder [] ≡ []
 unfolding inOrder
 nothing-in-order = refl
+
+-- a kit without a unit begins nothing
+pub listed-beginnings : (N : List ℕ) → allBeginnings (listed N) ≡ allBeginnings (held N)
+unfolding listed
+listed-beginnings N = units-beginnings (held N)
+
+pub zeros-list-nothing : (N : List ℕ) → nodesLength N ≡ true → listed (zeroed N) ≡ []
+unfolding listed keep
+zeros-list-nothing N sized = ap withUnits (zeros-hold-nothing N sized)
 
 -- Both tables emptied
 pub emptied : (R N : List ℕ) → registerLength R ≡ true → nodesLength N ≡ true → Brought (tables (zeroed R) (zeroed N)) (has [] [])
 emptied R N fits sized = record {
   both = empty-sound R N fits sized;
   parts = zeros-parts (length R);
-  kits = zeros-hold-nothing N sized ∙ sym nothing-in-order;
+  kits = zeros-list-nothing N sized ∙ sym nothing-in-order;
   apart = none;
-  small = none;
+  small = λ k i. absurd (List·Memᴰ·not-nil (subst (List·Memᴰ k) (zeros-hold-nothing N sized) i));
 }
 
 -- A number registered
@@ -100,26 +121,39 @@ module _ (l : List ℕ) (t : ℕ) (R N : List ℕ) (m : Contents) (b : Brought (
 
   new-row : (k : Kit) → List·Memᴰ k (m .kits) → units l ≢ k .row
   new-row k i e =
-      let h : List·Memᴰ k (held N) = subst (List·Memᴰ k) (sym (b .kits)) (mem-order k (m .kits) i) in
+      let h : List·Memᴰ k (held N) = listed-mem N k .0 (subst (List·Memᴰ k) (sym (b .kits)) (mem-order k (m .kits) i)) .0 in
       let f : tagIn (units l) (held N) ≡ k .tag = ap (λ (r : List ℕ). tagIn r (held N)) e ∙ tag-in k (held N)
       (held-rows-differ (b .both .sound .shape)) h in
       omega (arith, I .accepted .fresh, held-tagged (b .both .sound .shape) k h)
 
-  pub now-held : held (enter N (units l) t) ≡ inOrder (kit (units l) t ∷ m .kits)
+  pub now-listed : listed (enter N (units l) t) ≡ inOrder (kit (units l) t ∷ m .kits)
   unfolding inOrder
-  now-held = held-after-insert (b .both .sound) row (I .some-tag) (I .accepted) ∙ ap (putKit (kit (units l) t)) (b .kits)
+  now-listed = listed-after-insert (b .both .sound) row (I .some-tag) (I .accepted) (I .some-unit) ∙ ap (putKit (kit (units l) t)) (b .kits)
 
   -- as many nodes are taken as there are beginnings more
-  pub now-begun : length (allBeginnings (held (enter N (units l) t))) ≡ length (allBeginnings (held N)) + lacks N 0 (units l)
-  now-begun = insert-growth (b .both .sound) row (I .some-tag) (I .accepted)
+  pub now-begun : length (allBeginnings (listed (enter N (units l) t))) ≡ length (allBeginnings (listed N)) + lacks N 0 (units l)
+  now-begun =
+      omega (
+        arith,
+        insert-growth (b .both .sound) row (I .some-tag) (I .accepted),
+        ap length (listed-beginnings N),
+        ap length (listed-beginnings (enter N (units l) t)),
+      )
+
+  small-now : t < twoLimit → SmallTags (enter N (units l) t)
+  small-now h k i = ⊎-elim
+      (λ (e : k ≡ kit (units l) t). omega (arith, ap (λ (j : Kit). j .tag) e, h))
+      (λ j. b .small k j)
+      (put-mem (kit (units l) t) k (held N)
+      (subst (List·Memᴰ k) (held-after-insert (b .both .sound) row (I .some-tag) (I .accepted)) i))
 
   inserted : t < twoLimit → Brought (tables R (enter N (units l) t)) (has (m .parts) (kit (units l) t ∷ m .kits))
   inserted small-tag = record {
     both = insert-keeps-sound l t (tables R N) v I (b .both);
     parts = b .parts;
-    kits = now-held;
+    kits = now-listed;
     apart = ahead (mem-every (m .kits) new-row) (b .apart);
-    small = also small-tag (b .small);
+    small = small-now small-tag;
   }
 
 -- A kit deleted
@@ -128,9 +162,10 @@ module _ (r R N : List ℕ) (m : Contents) (b : Brought (tables R N) m) (n : tag
   deleted = record {
     both = delete-keeps-sound r (tables R N) n (b .both);
     parts = b .parts;
-    kits = held-after-delete (b .both .sound) r n ∙ ap (dropKit r) (b .kits) ∙ sym (order-dropped r (m .kits) (b .apart));
+    kits = listed-after-delete (b .both .sound) r n ∙ ap (dropKit r) (b .kits) ∙ sym (order-dropped r (m .kits) (b .apart));
     apart = dropped-apart r (m .kits) (b .apart);
-    small = every-dropped r (m .kits) (b .small);
+    small = λ k i. b .small k (drop-mem r k (held N) (held-rises (b .both .sound .shape))
+        (subst (List·Memᴰ k) (held-after-delete (b .both .sound) r n) i) .0);
   }
 
 -- Call by call, of a call that is done
@@ -167,7 +202,7 @@ module _ (s : List ℕ) (T : Tables) (v : ℕ) (h : Bytes s) (fits : registerLen
   c = said (decode s)
 
   abbrev F : Tables
-  F = filling (said (decode s)) T
+  F = filling (withoutEmpty (said (decode s))) T
 
   again : (encode (said (decode s)) ≡ s) × (fitsSheet (said (decode s)) ≡ true)
   again = filled.said-again s h (filled.accepted s T v e .faultless)
@@ -175,19 +210,22 @@ module _ (s : List ℕ) (T : Tables) (v : ℕ) (h : Bytes s) (fits : registerLen
   what-fits : Fits (said (decode s))
   what-fits = fitting-fits c (again .1)
 
-  pub what-is-in : filled.Has (said (decode s)) T (filling (said (decode s)) T)
-  what-is-in = subst (filled.Has c T) (filled.reading-leaves s h T fits sized v e) (filled.reading-has s h T fits sized v e)
+  pub what-is-in : filled.Has (withoutEmpty (said (decode s))) T (filling (withoutEmpty (said (decode s))) T)
+  what-is-in = subst (filled.Has (withoutEmpty c) T) (filled.reading-leaves s h T fits sized v e) (filled.reading-has s h T fits sized v e)
 
-  in-order : Rising Earlier (said (decode s) .kits)
-  in-order = rising-earlier (c .kits) (what-fits .kits-rise)
+  rises : Rising Earlier (said (decode s) .kits)
+  rises = rising-earlier (c .kits) (what-fits .kits-rise)
 
-  small-tags : Every SmallTag (said (decode s) .kits)
+  in-order : Rising Earlier (withUnits (said (decode s) .kits))
+  in-order = rising-keep someUnit (c .kits) rises
+
+  small-tags : SmallTags (filling (withoutEmpty (said (decode s))) T .nodes)
   unfolding goodKit
-  small-tags =
-      mem-every (c .kits)
-      (λ k m. ltb-true (k .tag) twoLimit (every-at _ 1 (allb-mem (goodKit (length (c .parts))) (c .kits) k (what-fits .kits-good) m)))
+  small-tags k i =
+      let m : List·Memᴰ k (c .kits) = units-mem k (c .kits) .0 (subst (List·Memᴰ k) (what-is-in .kits) i) .0 in
+      ltb-true (k .tag) twoLimit (every-at _ 1 (allb-mem (goodKit (length (c .parts))) (c .kits) k (what-fits .kits-good) m))
 
-  read-in : Brought (filling (said (decode s)) T) (said (decode s))
+  read-in : Brought (filling (withoutEmpty (said (decode s))) T) (withoutEmpty (said (decode s)))
   read-in =
       let z : nodesLength (F .nodes) ≡ true = same-nodes-length (T .nodes) (F .nodes) (what-is-in .nodes-length) sized in
       let p = what-is-in .parts in
@@ -202,13 +240,10 @@ module _ (s : List ℕ) (T : Tables) (v : ℕ) (h : Bytes s) (fits : registerLen
           sound = rw p (sound-exactly (length (c .parts)) (F .nodes) z .0 (what-is-in .nodes-sound));
         };
         parts = p;
-        kits = what-is-in .kits ∙ sym (order-same (c .kits) in-order);
+        kits = sym (what-is-in .none-empty) ∙ what-is-in .kits ∙ sym (order-same (withUnits (c .kits)) in-order);
         apart = apart in-order;
         small = small-tags;
       }
-
-  read-again : encode (listedIn (said (decode s))) ≡ s
-  read-again = ap (λ (ks : List Kit). encode (has (c .parts) ks)) (order-same (c .kits) in-order) ∙ again .0
 
 -- what an accepted reading was given
 module _ (s : List ℕ) (T : Tables) (v : ℕ) (h : Bytes s) (e : answer (reading s T) ≡ done v) where
@@ -220,28 +255,27 @@ module _ (s : List ℕ) (T : Tables) (v : ℕ) (h : Bytes s) (e : answer (readin
       let y = done-passes _ _ _ _ (x .1) in
       (not-false _ (x .0), not-false _ (y .0))
 
-  behind-lengths : answer (read.readingInto s T) ≡ done v
+  pub behind-lengths : answer (read.readingInto s T) ≡ done v
   unfolding answer reading read.readingInto
   behind-lengths = done-parts (lengths T) _ 0 _ v e .1
 
-  -- the tables that it leaves have just what the sheet says, and their old lengths
-  pub what-was-read : filled.Has (said (decode s)) T (reading s T .after)
+  -- the tables that it leaves have just what it takes of the sheet, and their old lengths
+  pub what-was-read : filled.Has (withoutEmpty (said (decode s))) T (reading s T .after)
   unfolding reading
   what-was-read = what-is-in s T v h (lengths-good .0) (lengths-good .1) behind-lengths
 
-  pub read-kept : Brought (reading s T .after) (said (decode s))
+  pub read-kept : Brought (reading s T .after) (withoutEmpty (said (decode s)))
   unfolding reading
   read-kept = read-in s T v h (lengths-good .0) (lengths-good .1) behind-lengths
 
-  pub sheet-again : encode (listedIn (said (decode s))) ≡ s
-  sheet-again = read-again s T v h (lengths-good .0) (lengths-good .1) behind-lengths
+  -- it was the sheet of what it said, in listing order
+  pub sheet-said : encode (said (decode s)) ≡ s
+  sheet-said = again s T v h (lengths-good .0) (lengths-good .1) behind-lengths .0
 
--- what the types of a call say
-pub record Typed (c : Call) : Type 0 where
-  pub tag : (l : List ℕ) (t : ℕ) → insertKit l t ≡ c → t < twoLimit
-  pub sheet : (s : List ℕ) → readSheet s ≡ c → Bytes s
+  pub said-rises : Rising Earlier (said (decode s) .kits)
+  said-rises = rises s T v h (lengths-good .0) (lengths-good .1) behind-lengths
 
-pub done-keeps : (c : Call) (T : Tables) (m : Contents) (v : ℕ) → Typed c → answer (planOf c T) ≡ done v → Brought T m →
+pub done-keeps : (c : Call) (T : Tables) (m : Contents) (v : ℕ) → TypesSay c → answer (planOf c T) ≡ done v → Brought T m →
     Brought (planOf c T .after) (demand.accepted c m)
 unfolding planOf demand.accepted answer lookingUp showing finding counting anyKit
 done-keeps emptyBoth T m v y e b = empty-kept T v e
@@ -261,7 +295,7 @@ done-keeps (writeSheet o) T m v y e b = b
 done-keeps (readSheet s) T m v y e b = read-kept s T v (y .sheet s refl) e
 
 -- A call, done or refused
-pub call-keeps : (c : Call) (T : Tables) (m : Contents) → Typed c → Brought T m →
+pub call-keeps : (c : Call) (T : Tables) (m : Contents) → TypesSay c → Brought T m →
     Brought (memory (planOf c T) T) (step c (answer (planOf c T)) m)
 unfolding memory leaves step
 call-keeps c T m y b = go (answer (planOf c T)) refl
@@ -271,7 +305,7 @@ call-keeps c T m y b = go (answer (planOf c T)) refl
     go (refused n v) e = b
 
 -- Many calls
-pub calls-keep : (cs : List Call) (T : Tables) (m : Contents) → Every Typed cs → Brought T m → Brought (run cs T) (model (log cs T) m)
+pub calls-keep : (cs : List Call) (T : Tables) (m : Contents) → Every TypesSay cs → Brought T m → Brought (run cs T) (model (log cs T) m)
 unfolding run log model
 calls-keep [] T m y b = b
 calls-keep (c ∷ cs) T m (also y ys) b = calls-keep cs (memory (planOf c T) T) (step c (answer (planOf c T)) m) ys (call-keeps c T m y b)
@@ -288,7 +322,7 @@ begun-empty a h =
     (slots-fit (a .slots) R (h .some-slot) (h .few-slots) (length-replicate {A = ℕ} (a .slots * slotBytes) 0))
     (room-fits (a .room) N (h .some-node) (h .few-nodes) (length-replicate {A = ℕ} (a .room * wordsPerNode) 0))))
 
-pub all-typed : (a : Catalogue) → Allowed a → Every Typed (a .calls)
+pub all-typed : (a : Catalogue) → Allowed a → Every TypesSay (a .calls)
 all-typed a h =
     mem-every (a .calls) (λ c m. record { tag = λ l t e. h .tags l t (Memᴰ·cast e m); sheet = λ s e. h .sheets s (Memᴰ·cast e m) })
 

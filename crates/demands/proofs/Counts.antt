@@ -1,7 +1,6 @@
 -- "Made-up counts fall with the table": the nodes used and taken, counted by the beginnings of the kits entered.
-use mathlib.Core.Path.{_≡_, ap, _∙_}
+use mathlib.Core.Path.{_≡_, ap}
 use mathlib.Core.List.{List, _∷_}
-use Prim.Native.Nat.{ℕ, _+_}
 use native.Mathlib.Omega.{arith}
 use lib.ListN.{length}
 use Rattle.nodes.specs.Held.{Kit, inOrder, allBeginnings}
@@ -13,9 +12,9 @@ use Rattle.kits.specs.Kits.{units}
 use Rattle.demands.specs.Model.{tablesOf, entered}
 use Rattle.demands.specs.Pins.{NodesCounted, NodesTaken}
 use Rattle.catalogue.proofs.Kept.{insertion}
-use Rattle.demands.proofs.Brought.{brought, now-held, now-begun}
+use Rattle.demands.proofs.Brought.{brought, listed-beginnings, now-listed, now-begun}
 
--- the order of the kits does not matter
+-- the order of the kits does not matter, and a kit without a unit begins nothing
 pub as-many : (ks : List Kit) → length (allBeginnings (inOrder ks)) ≡ length (allBeginnings ks)
 as-many ks =
     omega (arith, more-beginnings (inOrder ks) ks (λ k m. order-mem k ks m), more-beginnings ks (inOrder ks) (λ k m. mem-order k ks m))
@@ -23,15 +22,20 @@ as-many ks =
 pub nodes-counted : NodesCounted
 nodes-counted a h =
     let b = brought a h in
-    nodes-used (b .both .sound) ∙ ap (λ (ks : List Kit). 1 + length (allBeginnings ks)) (b .kits) ∙ ap (λ (n : ℕ). 1 + n)
-    (as-many (entered a .kits))
+    omega (
+      arith,
+      nodes-used (b .both .sound),
+      ap length (listed-beginnings (tablesOf a .nodes)),
+      ap (λ (ks : List Kit). length (allBeginnings ks)) (b .kits),
+      as-many (entered a .kits),
+    )
 
 pub nodes-taken : NodesTaken
 nodes-taken a l t v h e =
     let b = brought a h in
     let T = tablesOf a in
     let i = insertion l t T v e in
-    let now = now-held l t (T .register) (T .nodes) (entered a) b v i in
+    let now = now-listed l t (T .register) (T .nodes) (entered a) b v i in
     let more = now-begun l t (T .register) (T .nodes) (entered a) b v i in
     omega (
       arith,

@@ -122,7 +122,7 @@ fronted (showAt p) T = record { rest = _; cases = refl; above = also refl none }
 fronted (insertKit l t) T = record {
   rest = _;
   cases = refl;
-  above = also refl (every-append (list-above (partCount T) l) (also refl (also refl (also refl (also refl none)))));
+  above = also refl (every-append (list-above (partCount T) l) (also refl (also refl (also refl (also refl (also refl none))))));
 }
 fronted (findKit l) T = record { rest = _; cases = refl; above = every-append (list-above (partCount T) l) (also refl none) }
 fronted (deleteKit l) T = record { rest = _; cases = refl; above = every-append (list-above (partCount T) l) (also refl none) }

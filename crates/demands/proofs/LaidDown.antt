@@ -21,10 +21,10 @@ use Rattle.catalogue.specs.Calls.{countKits, deleting, counting, anyKit, allKit
 use Rattle.demands.specs.Demand1.{numbersGiven, NumbersLaidDown}
 
 -- its number is among some
-abbrev NumberIn : List ℕ → Case → Type 0
+abbrev pub NumberIn : List ℕ → Case → Type 0
 NumberIn ns c = anyb (eqb (c .number)) ns ≡ true
 
-decided-in : (ns : List ℕ) (cs : List Case) (v : ℕ) → Every (NumberIn ns) cs →
+pub decided-in : (ns : List ℕ) (cs : List Case) (v : ℕ) → Every (NumberIn ns) cs →
     (numberOf (decide cs v) ≡ 0) ⊎ (anyb (eqb (numberOf (decide cs v))) ns ≡ true)
 unfolding decide
 decided-in ns [] v none = inl refl
@@ -40,7 +40,7 @@ module _ (ns : List ℕ) (four : anyb (eqb 4) ns ≡ true) (five : anyb (eqb 5) 
   lines-in n prev k (p ∷ []) = none
   lines-in n prev k (p ∷ q ∷ l) = also four (also five (also six (lines-in n p (suc k) l)))
 
-  list-in : (n : ℕ) (l : List ℕ) → Every (NumberIn ns) (listFaults n l)
+  pub list-in : (n : ℕ) (l : List ℕ) → Every (NumberIn ns) (listFaults n l)
   unfolding listFaults
   list-in n l = also four (lines-in n 0 1 l)
 
@@ -53,7 +53,8 @@ cases-in (registerPart n) T = also refl (also refl (also refl (also refl (also r
 cases-in (lookUp n) T = also refl (also refl (also refl (also refl none)))
 cases-in (showAt p) T = also refl (also refl (also refl none))
 cases-in (insertKit l t) T = also refl (also refl (also refl (also refl (also refl
-    (every-append (list-in (numbersGiven (insertKit l t)) refl refl refl (partCount T) l) (also refl (also refl (also refl (also refl none)))))))))
+    (every-append (list-in (numbersGiven (insertKit l t)) refl refl refl (partCount T) l)
+    (also refl (also refl (also refl (also refl (also refl none))))))))))
 cases-in (findKit l) T =
     also refl (also refl (also refl (also refl (every-append (list-in (numbersGiven (findKit l)) refl refl refl (partCount T) l) (also refl none)))))
 cases-in (deleteKit l) T =

@@ -4,12 +4,14 @@ pub mod Refusals
 pub mod Questions
 pub mod Brought
 pub mod Sizes
+pub mod NeverEmpty
 pub mod Answers
 pub mod Almost
 pub mod Beginning
 pub mod Counts
 pub mod Sheets
 pub mod Told
+pub mod NoKit
 pub mod Damaged
 pub mod AtFault
 pub mod LaidDown

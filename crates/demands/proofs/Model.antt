@@ -22,7 +22,7 @@ order-same ks s = listing-same (order-rises (apart s)) s (λ k m. order-mem k ks
 
 -- Taking a kit out of a list in any order
 module _ (r : List ℕ) where
-  pub every-dropped : {P : Kit → Type 0} (ks : List Kit) → Every P ks → Every P (dropKit r ks)
+  every-dropped : {P : Kit → Type 0} (ks : List Kit) → Every P ks → Every P (dropKit r ks)
   unfolding dropKit
   every-dropped [] none = none
   every-dropped {P} (k ∷ ks) (also q s) =

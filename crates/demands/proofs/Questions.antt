@@ -16,21 +16,22 @@ use Rattle.register.specs.Inner.{Ready}
 use Rattle.register.proofs.Laws.{look-up-exactly}
 use Rattle.kits.specs.Kits.{Within, units}
 use Rattle.kits.proofs.Inclusion.{includes-within, within-includes}
-use Rattle.nodes.specs.Inner.{Sound}
 use Rattle.nodes.specs.Held.{Kit, tagsOf, firstTag, listed}
 use Rattle.nodes.proofs.Lists.{never}
 use Rattle.nodes.proofs.Sorted.{Rising, none, ahead, every-mem}
 use Rattle.nodes.proofs.Listing.{Earlier}
+use Rattle.nodes.proofs.Units.{listed-mem}
 use Rattle.questions.specs.Questions.{isWithin, isContaining, fitting, anyOf, allOf}
 use Rattle.questions.proofs.Meaning.{fitting-exactly, fitting-sorted, none-exactly}
 use Rattle.ground.specs.Tables.{Tables}
-use Rattle.tables.specs.Lent.{partCount, lentList}
+use Rattle.tables.specs.Lent.{lentList}
+use Rattle.tables.specs.Inner.{SoundTables}
 use Rattle.tables.proofs.Lent.{lent-passed}
 use Rattle.catalogue.specs.Calls.{planOf, anyKit, allKits}
 use Rattle.demands.specs.Demand2 as demand
 use Rattle.catalogue.specs.Calls.{Question}
-use Rattle.demands.specs.Demand2.{FitsExactly, ContainsExactly, TurnedRound, Asked, AnySays, NoneFits, NoneContains, InOrder, ListedInOrder}
-use Rattle.demands.specs.Demand2.{ListingShows, OneOnlyIf}
+use Rattle.demands.specs.Demand2.{ListedExactly, FitsExactly, ContainsExactly, TurnedRound, Asked, AnySays, NoneFits, NoneContains, InOrder}
+use Rattle.demands.specs.Demand2.{ListedInOrder, ListingShows, OneOnlyIf}
 
 -- what the two questions ask
 pub within-asks : (bin : List ℕ) (k : Kit) → (isWithin bin k ≡ true) ↔ Within (k .row) bin
@@ -50,9 +51,8 @@ no-unless false f = refl
 no-unless true f = absurd (f refl)
 
 -- tables that are asked a question are sound
-asked-sound : (T : Tables) (l : List ℕ) → Asked T l → Sound (partCount T) (T .nodes)
-asked-sound T l e =
-    lent-passed (T .register) (T .nodes) l (ap isRefused e) .sound
+pub asked-tables : (T : Tables) (l : List ℕ) → Asked T l → SoundTables T
+asked-tables T l e = lent-passed (T .register) (T .nodes) l (ap isRefused e)
 
 pub any-says : AnySays
 unfolding answer anyKit anyOf decide
@@ -61,11 +61,14 @@ any-says question l T e = rw append-nil at (decide-behind (lentList T l) [] 0 (f
 done-same : (v w : ℕ) → done v ≡ done w → v ≡ w
 done-same v w e = cc
 
+pub listed-exactly : ListedExactly
+listed-exactly N k = listed-mem N k
+
 -- a question and what it asks of a kit
 module _ (question : Question) (Asks : List ℕ → Kit → Type 0) (asks : (u : List ℕ) (k : Kit) → (question u k ≡ true) ↔ Asks u k)
     (l : List ℕ) where
-  listed-exactly : (N : List ℕ) (k : Kit) → List·Memᴰ k (fitting question l N) ↔ (List·Memᴰ k (listed N) × Asks (units l) k)
-  listed-exactly N k = (
+  asked-exactly : (N : List ℕ) (k : Kit) → List·Memᴰ k (fitting question l N) ↔ (List·Memᴰ k (listed N) × Asks (units l) k)
+  asked-exactly N k = (
     λ m. let h = fitting-exactly question l N k .0 m in (h .0, asks (units l) k .0 (h .1)),
     λ h. fitting-exactly question l N k .1 (h .0, asks (units l) k .1 (h .1)),
   )
@@ -75,17 +78,17 @@ module _ (question : Question) (Asks : List ℕ → Kit → Type 0) (asks : (u :
   unfolding anyOf
   none-asked T s =
       let N = T .nodes in
-      let x = none-exactly question l N (asked-sound T l s .shape) in
+      let x = none-exactly question l N (asked-tables T l s .sound .shape) in
       let a = any-says question l T s in (
         λ e k m w. never (sym (asks (units l) k .1 w) ∙ x .0 (done-same (firstTag (fitting question l N)) 0 (sym a ∙ e)) k m),
         λ f. a ∙ ap done (x .1 (λ k m. no-unless (question (units l) k) (λ h. f k m (asks (units l) k .0 h)))),
       )
 
 pub fits-exactly : FitsExactly
-fits-exactly bin N k = listed-exactly isWithin (λ u k. Within (k .row) u) within-asks bin N k
+fits-exactly bin N k = asked-exactly isWithin (λ u k. Within (k .row) u) within-asks bin N k
 
 pub contains-exactly : ContainsExactly
-contains-exactly wanted N k = listed-exactly isContaining (λ u k. Within u (k .row)) containing-asks wanted N k
+contains-exactly wanted N k = asked-exactly isContaining (λ u k. Within u (k .row)) containing-asks wanted N k
 
 pub none-fits : NoneFits
 none-fits bin T s = none-asked isWithin (λ u k. Within (k .row) u) within-asks bin T s
@@ -99,7 +102,7 @@ in-order none = demand.none
 in-order (ahead e s) = demand.ahead (λ j m. every-mem e m) (in-order s)
 
 pub listed-in-order : ListedInOrder
-listed-in-order question l T s = in-order (fitting-sorted question l (T .nodes) (asked-sound T l s .shape))
+listed-in-order question l T s = in-order (fitting-sorted question l (T .nodes) (asked-tables T l s .sound .shape))
 
 pub listing-shows : ListingShows
 unfolding allKits allOf

@@ -20,9 +20,9 @@ use Rattle.tables.specs.Lent.{partCount}
 use Rattle.catalogue.specs.Calls.{Call, emptyBoth, registerPart, lookUp, showAt, insertKit, findKit, deleteKit, anyWithin, anyContaining}
 use Rattle.catalogue.specs.Calls.{allWithin, allContaining, allAlmost, writeSheet, readSheet, planOf, emptying, inserting, finding}
 use Rattle.catalogue.specs.Calls.{countKits, deleting, counting, anyKit}
-use Rattle.demands.specs.Model.{has, step, run, Catalogue, Allowed, begun, tablesOf}
+use Rattle.demands.specs.Model.{has, step, run, TypesSay, Catalogue, Allowed, begun, tablesOf}
 use Rattle.catalogue.proofs.Kept.{insertion, delete-held}
-use Rattle.demands.proofs.Brought.{Brought, Typed, what-was-read, call-keeps, begun-empty, all-typed}
+use Rattle.demands.proofs.Brought.{Brought, what-was-read, call-keeps, begun-empty, all-typed}
 
 -- tables of the same lengths
 pub record Alike (T U : Tables) : Type 0 where
@@ -40,7 +40,7 @@ register-alike n T v e =
       nodes = refl;
     }
 
-done-alike : (c : Call) (T : Tables) (m : Contents) (v : ℕ) → Typed c → answer (planOf c T) ≡ done v → Brought T m →
+done-alike : (c : Call) (T : Tables) (m : Contents) (v : ℕ) → TypesSay c → answer (planOf c T) ≡ done v → Brought T m →
     Alike T (planOf c T .after)
 unfolding planOf answer emptying lookingUp showing inserting finding deleting counting anyKit
 done-alike emptyBoth T m v y e b =
@@ -63,7 +63,7 @@ done-alike (writeSheet o) T m v y e b = record { register = refl; nodes = refl }
 done-alike (readSheet s) T m v y e b =
     let r = what-was-read s T v (y .sheet s refl) e in record { register = r .register-length; nodes = r .nodes-length }
 
-call-alike : (c : Call) (T : Tables) (m : Contents) → Typed c → Brought T m → Alike T (memory (planOf c T) T)
+call-alike : (c : Call) (T : Tables) (m : Contents) → TypesSay c → Brought T m → Alike T (memory (planOf c T) T)
 unfolding memory leaves
 call-alike c T m y b = go (answer (planOf c T)) refl
   where
@@ -71,7 +71,7 @@ call-alike c T m y b = go (answer (planOf c T)) refl
     go (done v) e = done-alike c T m v y e b
     go (refused n v) e = record { register = refl; nodes = refl }
 
-calls-alike : (cs : List Call) (T : Tables) (m : Contents) → Every Typed cs → Brought T m → Alike T (run cs T)
+calls-alike : (cs : List Call) (T : Tables) (m : Contents) → Every TypesSay cs → Brought T m → Alike T (run cs T)
 unfolding run
 calls-alike [] T m y b = record { register = refl; nodes = refl }
 calls-alike (c ∷ cs) T m (also y ys) b =

@@ -35,13 +35,14 @@ use Rattle.demands.specs.Demand1.{told, ToldExactly}
 use Rattle.demands.proofs.Model.{tag-order}
 use Rattle.demands.proofs.Brought.{Brought, brought}
 use Rattle.demands.proofs.Sizes.{sizes}
+use Rattle.demands.proofs.NeverEmpty.{AllListed, never-empty}
 use Rattle.demands.proofs.Answers.{behind-tables, any-answer, all-answer}
 use Rattle.demands.proofs.Almost.{almost-answer}
 use Rattle.demands.proofs.Beginning.{count-answer}
 use Rattle.demands.proofs.Sheets.{write-answer}
 use Rattle.demands.proofs.Counts.{as-many}
 
-module _ {T : Tables} {m : Contents} (b : Brought T m) (slots room : ℕ) (hs : slotCount (T .register) ≡ slots)
+module _ {T : Tables} {m : Contents} (b : Brought T m) (all : AllListed T) (slots room : ℕ) (hs : slotCount (T .register) ≡ slots)
     (hr : size (T .nodes) ≡ room) where
   abbrev R : List ℕ
   R = T .register
@@ -67,8 +68,11 @@ module _ {T : Tables} {m : Contents} (b : Brought T m) (slots room : ℕ) (hs : 
   show-told p = let q = b .parts in rw q (decide-behind (lentRegister R) _ 0 _ ready-lent)
 
   -- what is held, in any order
+  held-is : held (T .nodes) ≡ inOrder (m .kits)
+  held-is = all ∙ b .kits
+
   tag-told : (r : List ℕ) → tagIn r (held (T .nodes)) ≡ tagIn r (m .kits)
-  tag-told r = ap (tagIn r) (b .kits) ∙ tag-order r (m .kits) (b .apart)
+  tag-told r = ap (tagIn r) held-is ∙ tag-order r (m .kits) (b .apart)
 
   borne-told : (t : ℕ) → anyb (eqb t) (tagsOf (held (T .nodes))) ≡ anyb (eqb t) (tagsOf (m .kits))
   borne-told t = same-cases (anyb (eqb t) (tagsOf (held N))) (anyb (eqb t) (tagsOf (m .kits)))
@@ -76,31 +80,31 @@ module _ {T : Tables} {m : Contents} (b : Brought T m) (slots room : ℕ) (hs : 
       let o = tags-mem t (held N) (anyb-eqb t (tagsOf (held N)) h) in
       eqb-anyb t (tagsOf (m .kits))
       (subst (λ (x : ℕ). List·Memᴰ x (tagsOf (m .kits))) (o .2)
-      (mem-tags (o .0) (m .kits) (order-mem (o .0) (m .kits) (subst (List·Memᴰ (o .0)) (b .kits) (o .1))))))
+      (mem-tags (o .0) (m .kits) (order-mem (o .0) (m .kits) (subst (List·Memᴰ (o .0)) held-is (o .1))))))
       (λ h.
       let o = tags-mem t (m .kits) (anyb-eqb t (tagsOf (m .kits)) h) in
       eqb-anyb t (tagsOf (held N))
       (subst (λ (x : ℕ). List·Memᴰ x (tagsOf (held N))) (o .2)
-      (mem-tags (o .0) (held N) (subst (List·Memᴰ (o .0)) (sym (b .kits)) (mem-order (o .0) (m .kits) (o .1))))))
+      (mem-tags (o .0) (held N) (subst (List·Memᴰ (o .0)) (sym held-is) (mem-order (o .0) (m .kits) (o .1))))))
 
   -- the nodes that an insertion takes, and those that are free
   module _ (l : List ℕ) (t : ℕ) where
     grown : nodesNeeded (more m l t) ≡ nodesNeeded m + lacks (T .nodes) 0 (units l)
     unfolding inOrder
     grown =
-        let e : putKit (kit (units l) t) (held N) ≡ inOrder (kit (units l) t ∷ m .kits) = ap (putKit (kit (units l) t)) (b .kits) in
+        let e : putKit (kit (units l) t) (held N) ≡ inOrder (kit (units l) t ∷ m .kits) = ap (putKit (kit (units l) t)) held-is in
         omega (
           arith,
           nodes-needed (b .both .sound) (units l) t,
           ap (λ (ks : List Kit). length (allBeginnings ks)) e,
           as-many
               (kit (units l) t ∷ m .kits),
-          ap (λ (ks : List Kit). length (allBeginnings ks)) (b .kits),
+          ap (λ (ks : List Kit). length (allBeginnings ks)) held-is,
           as-many (m .kits),
         )
 
     free-told : nodesNeeded m + length (freeNodes (T .nodes)) ≡ room
-    free-told = omega (arith, nodes-free (b .both .sound), ap (λ (ks : List Kit). length (allBeginnings ks)) (b .kits), as-many (m .kits), hr)
+    free-told = omega (arith, nodes-free (b .both .sound), ap (λ (ks : List Kit). length (allBeginnings ks)) held-is, as-many (m .kits), hr)
 
     full-told : ltb (length (freeNodes (T .nodes))) (lacks (T .nodes) 0 (units l)) ≡ ltb room (nodesNeeded (more m l t))
     full-told = same-cases (ltb (length (freeNodes N)) (lacks N 0 (units l))) (ltb room (nodesNeeded (more m l t)))
@@ -166,4 +170,4 @@ module _ {T : Tables} {m : Contents} (b : Brought T m) (slots room : ℕ) (hs : 
   call-told (readSheet s) = read-told s
 
 pub told-exactly : ToldExactly
-told-exactly a c h = let z = sizes a h in call-told (brought a h) (a .slots) (a .room) (z .slots) (z .room) c
+told-exactly a c h = let z = sizes a h in call-told (brought a h) (never-empty a h) (a .slots) (a .room) (z .slots) (z .room) c

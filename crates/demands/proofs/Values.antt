@@ -20,11 +20,12 @@ use Rattle.register.specs.Inner.{Ready}
 use Rattle.register.proofs.Slots.{number-short}
 use Rattle.kits.specs.Kits.{mostUnits, mostPlace, listOf, units, lineValue, lineFaults, linesFaults, listFaults}
 use Rattle.kits.specs.Inner.{GoodRow}
-use Rattle.nodes.specs.Held.{Kit, held, tagIn, tagsOf, firstTag, beginnings, addNew, allBeginnings}
+use Rattle.nodes.specs.Held.{Kit, held, listed, someUnit, tagIn, tagsOf, firstTag, beginnings, addNew, allBeginnings}
 use Rattle.nodes.proofs.Lists.{zero-or}
 use Rattle.nodes.proofs.Sorted.{Every, none, also, every-append, keep-short, allb-mem}
 use Rattle.nodes.proofs.Listing.{tags-long, tag-from}
 use Rattle.nodes.proofs.Tallies.{count-most}
+use Rattle.nodes.proofs.Units.{listed-mem}
 use Rattle.index_insert.specs.Enter.{lacks}
 use Rattle.index_insert.proofs.Entered.{lacks-most}
 use Rattle.index.specs.Index.{entryRefusals, missingRefusals}
@@ -37,10 +38,11 @@ use Rattle.sheet.specs.Sheet.{nodesNeeded}
 use Rattle.sheet.specs.Inner.{mostItem, mostRecord, goodKit}
 use Rattle.sheet.specs.Reading.{decode, said}
 use Rattle.sheet.specs.Calls.{sheetRefusals, roomRefusals}
+use Rattle.sheet.proofs.Fits.{Fits, fitting-fits}
 use Rattle.sheet.proofs.Lines.{record-size, lines-few}
 use Rattle.sheet.proofs.Widths.{lines-most, version-width}
 use Rattle.sheet_write.proofs.Records.{number-size}
-use Rattle.sheet_read.proofs.Listed.{Fits, fitting-fits, kit-fits}
+use Rattle.sheet_read.proofs.Listed.{kit-fits}
 use Rattle.sheet_read.proofs.Reading.{said-again}
 use Rattle.sheet_read.proofs.RoundTrip.{SmallTags, words-small, catalogue-fits}
 use Rattle.tables.specs.Inner.{SoundTables}
@@ -236,11 +238,11 @@ module _ (R N : List ℕ) (words : (i : ℕ) → getD N i 0 < twoLimit) where
     tag-here : (r : List ℕ) → tagIn r (held N) < limit
     tag-here r = omega (arith, tag-small twoLimit r (held N) (omega arith) tags-here)
 
-    kits-here : length (held N) < limit
+    kits-here : length (listed N) < limit
     kits-here = omega (arith, fits-here .few-kits)
 
     fitting-here : (question : Question) (l : List ℕ) (k : Kit) → List·Memᴰ k (fitting question l N) → k .tag < limit
-    fitting-here question l k m = omega (arith, tags-here k (fitting-exactly question l N k .0 m .0))
+    fitting-here question l k m = omega (arith, tags-here k (listed-mem N k .0 (fitting-exactly question l N k .0 m .0) .0))
 
   abbrev T : Tables
   T = tables R N
@@ -256,9 +258,10 @@ module _ (R N : List ℕ) (words : (i : ℕ) → getD N i 0 < twoLimit) where
       small-front (listFaults (partCount T) l) _ _ (faults-fit (partCount T) l) (λ _.
       small-step _ _ _ (λ _. some-limit) (λ s.
       let few : lacks N 0 (units l) ≤ 64 = omega (arith, lacks-most N 0 (units l), ltb-false mostUnits (length (units l)) s) in
+      small-step _ _ _ (λ _. some-limit) (λ _.
       small-step _ _ _ (λ _. tag-here L (units l)) (λ _.
       small-step _ _ _ (λ _. some-limit) (λ _.
-      small-step _ _ _ (λ _. omega arith) (λ _. end-small _ (omega arith))))))))
+      small-step _ _ _ (λ _. omega arith) (λ _. end-small _ (omega arith)))))))))
 
   pub finding-small : (l : List ℕ) → valueOf (answer (finding l (tables R N))) < limit
   unfolding answer finding missingRefusals
@@ -275,7 +278,7 @@ module _ (R N : List ℕ) (words : (i : ℕ) → getD N i 0 < twoLimit) where
   pub counting-small : (l : List ℕ) → valueOf (answer (counting l (tables R N))) < limit
   unfolding answer counting
   counting-small l =
-      small-end (lentList T l) _ (list-fits T l) (λ e. omega (arith, count-most (units l) (held N), kits-here (list-lent l e)))
+      small-end (lentList T l) _ (list-fits T l) (λ e. omega (arith, count-most (units l) (listed N), kits-here (list-lent l e)))
 
   pub any-small : (question : Question) (l : List ℕ) → valueOf (answer (anyKit question l (tables R N))) < limit
   unfolding answer anyKit anyOf
@@ -287,7 +290,7 @@ module _ (R N : List ℕ) (words : (i : ℕ) → getD N i 0 < twoLimit) where
       length (tagsOf (fitting question l N)) < limit
   unfolding fitting
   few-fitting question l e =
-      omega (arith, tags-long (fitting question l N), keep-short (question (units l)) (held N), kits-here (list-lent l e))
+      omega (arith, tags-long (fitting question l N), keep-short (question (units l)) (listed N), kits-here (list-lent l e))
 
   pub all-small : (question : Question) (l o : List ℕ) → valueOf (answer (allKits question l (tables R N) o)) < limit
   unfolding allKits allOf fitting
@@ -358,7 +361,7 @@ reading-small s T h = small-front (lengths T) _ _ (lengths-fit T) (λ e.
     let c = said (decode s) in
     let F : Fits c = fitting-fits c (said-again s h f .1) in
     small-step _ _ _ (λ _. omega (arith, F .few-parts)) (λ _.
-    small-step _ _ _ (λ _. nodes-small c F) (λ _. end-small _ (omega (arith, F .few-kits))))))
+    small-step _ _ _ (λ _. nodes-small c F) (λ _. end-small _ (omega (arith, keep-short someUnit (c .kits), F .few-kits))))))
 
 pub values-fit : ValuesFit
 unfolding planOf answer

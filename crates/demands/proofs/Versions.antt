@@ -13,7 +13,7 @@ use Rattle.sheet.specs.Bytes.{inBytes, valueFrom, fromBytes, two, twoBytes}
 use Rattle.sheet.specs.Sheet.{mark, markBytes, mostNarrow, version, encodeAs, encode}
 use Rattle.sheet.specs.Reading.{Item, item, fault, Reading, onward, one, bytes, anyTwo, isVersion, goodPartCount, numberSize, newNumber}
 use Rattle.sheet.specs.Reading.{numbers, records, Front, front, runOf, whole, decode}
-use Rattle.sheet.proofs.Written.{one-good}
+use Rattle.sheet.proofs.Written.{one-good, one-bad}
 use Rattle.sheet.proofs.Widths.{Versioned, narrow, wide, versioned}
 use Rattle.demands.specs.Versions.{isFirst, fewParts, frontFirst, decodeFirst, FirstRead, FirstWritten, FirstRefuses}
 
@@ -57,10 +57,6 @@ one-same : (size : List ℕ → ℕ) (good other : List ℕ → Bool) (bs : List
     one size good bs o ≡ one size other bs o
 unfolding one
 one-same size good other bs o e = rw e
-
-one-against : (size : List ℕ → ℕ) (good : List ℕ → Bool) (bs : List ℕ) (o : ℕ) → good (take (size bs) bs) ≡ false → one size good bs o ≡ fault o
-unfolding one
-one-against size good bs o e = rw (e, and-false (leb (size bs) (length bs)))
 
 -- so many numbers are so many
 abbrev Many : ℕ → List (List ℕ) → List ℕ → Type 0
@@ -155,4 +151,4 @@ pub first-refuses : FirstRefuses
 unfolding decodeFirst frontFirst onward bytes eqList
 first-refuses bs =
     let e = one-good (bytes markBytes) (eqList mark) mark (two 2 ++ bs) 0 refl refl in
-    rw (e, one-against (bytes twoBytes) isFirst (two 2 ++ bs) 3 (not-first bs))
+    rw (e, one-bad (bytes twoBytes) isFirst (two 2 ++ bs) 3 (not-first bs))

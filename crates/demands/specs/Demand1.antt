@@ -20,7 +20,7 @@ use Rattle.nodes.specs.Nodes.{nodesLength}
 use Rattle.nodes.specs.Sound.{nodesSound}
 use Rattle.nodes.specs.Held.{countBeginning, firstTag, tagIn, tagsOf}
 use Rattle.questions.specs.Questions.{isContaining, isWithin}
-use Rattle.sheet.specs.Sheet.{Contents, encode, nodesNeeded}
+use Rattle.sheet.specs.Sheet.{Contents, encode, nodesNeeded, withoutEmpty}
 use Rattle.sheet.specs.Reading.{decode, said}
 use Rattle.sheet.specs.Calls.{sheetRefusals}
 use Rattle.tables.specs.Lent.{partCount}
@@ -49,6 +49,7 @@ told slots room m (insertKit l t) = decide
     (given (isZero t) 8 0
     ∷ (listFaults (length (m .parts)) l
     ++ (given (ltb mostUnits (length (units l))) 7 0
+    ∷ given (isZero (length (units l))) 19 0
     ∷ given (not (isZero (tagIn (units l) (m .kits)))) 9 (tagIn (units l) (m .kits))
     ∷ given (anyb (eqb t) (tagsOf (m .kits))) 10 0
     ∷ given (ltb room (nodesNeeded (more m l t))) 12 (nodesNeeded (more m l t) - room) ∷ [])))
@@ -64,7 +65,7 @@ told slots room m (allWithin l o) = answer (listingOf isWithin l m o)
 told slots room m (allContaining l o) = answer (listingOf isContaining l m o)
 told slots room m (allAlmost d l o) = answer (almostOf d l m o)
 told slots room m (writeSheet o) = answer (setDown [] (encode (listedIn m)) o)
-told slots room m (readSheet s) = decide (sheetRefusals s slots room) (length (said (decode s) .kits))
+told slots room m (readSheet s) = decide (sheetRefusals s slots room) (length (withoutEmpty (said (decode s)) .kits))
 
 -- [14.2] Proof: Told, `told-exactly`
 abbrev pub ToldExactly : Type 0
@@ -116,13 +117,14 @@ abbrev pub TwoExactly : Type 0
 TwoExactly =
     (c : Call) (T : Tables) → (numberOf (answer (planOf c T)) ≡ 2) ↔ ((LengthWrong (asksOf c) T → ⊥) × TableUnsound (asksOf c) T)
 
--- [14.23] the numbers that a call may be refused with, in its order: "16, on registration only"
+-- [14.23] the numbers that a call may be refused with, in its order: "16, on registration only"; "19, on inserting it ..,
+-- after 7 and before 9"
 unfoldable pub numbersGiven : Call → List ℕ
 numbersGiven emptyBoth = 1 ∷ []
 numbersGiven (registerPart n) = 1 ∷ 2 ∷ 3 ∷ 16 ∷ 9 ∷ 12 ∷ []
 numbersGiven (lookUp n) = 1 ∷ 2 ∷ 3 ∷ 11 ∷ []
 numbersGiven (showAt p) = 1 ∷ 2 ∷ 11 ∷ []
-numbersGiven (insertKit l t) = 1 ∷ 2 ∷ 8 ∷ 4 ∷ 5 ∷ 6 ∷ 7 ∷ 9 ∷ 10 ∷ 12 ∷ []
+numbersGiven (insertKit l t) = 1 ∷ 2 ∷ 8 ∷ 4 ∷ 5 ∷ 6 ∷ 7 ∷ 19 ∷ 9 ∷ 10 ∷ 12 ∷ []
 numbersGiven (findKit l) = 1 ∷ 2 ∷ 4 ∷ 5 ∷ 6 ∷ 11 ∷ []
 numbersGiven (deleteKit l) = 1 ∷ 2 ∷ 4 ∷ 5 ∷ 6 ∷ 11 ∷ []
 numbersGiven (countKits l) = 1 ∷ 2 ∷ 4 ∷ 5 ∷ 6 ∷ []

@@ -4,25 +4,32 @@ use mathlib.Core.Path.{_≡_}
 use mathlib.Core.Logic.{_↔_}
 use mathlib.Core.Bool.{true}
 use mathlib.Core.List.{List, List·Memᴰ, [], _++_, _∷_}
-use Prim.Native.Nat.{_+_, _-_, _≤_, ℕ}
+use Prim.Native.Nat.{_+_, _-_, _<_, _≤_, ℕ}
 use lib.ListN.{drop, getD, length, take}
 use Rattle.ground.specs.Calls.{answer, decide, done, isRefused, memory}
 use Rattle.ground.specs.Tables.{Tables}
 use Rattle.register.specs.Register.{partsOf}
 use Rattle.register.specs.Calls.{showing, stretchFrom, stretchSize}
 use Rattle.kits.specs.Kits.{Within, before, listFaults, units}
-use Rattle.nodes.specs.Held.{Kit, firstTag, listed, tagsOf}
+use Rattle.nodes.specs.Held.{Kit, firstTag, held, listed, tagsOf}
 use Rattle.questions.specs.Questions.{fitting, isContaining, isWithin}
 use Rattle.sheet.specs.Sheet.{Contents}
 use Rattle.tables.specs.Lent.{lentList}
 use Rattle.catalogue.specs.Calls.{Question, allKits, anyKit, lookUp, planOf, showAt}
 use Rattle.demands.specs.Model.{Allowed, Catalogue, answering, entered, listingOf, tablesOf}
 
+-- Request 14: "Demands 2 and 3 speak from then on of kits with at least one unit". A table from before may hold one without; it is passed over,
+-- and no catalogue that was begun empty comes to hold one (`NeverEmpty`).
+
 ------------------------------------------------------------------------
 -- Of tables
 
--- "A kit fits a bin exactly when, for each part, the kit's quantity is no more than the bin's": the kits listed within a bin are exactly
--- the held kits of which that is so. Proof: Questions, `fits-exactly`
+-- [14.28] the kits that are spoken of: those held that have a unit. Proof: Questions, `listed-exactly`
+abbrev pub ListedExactly : Type 0
+ListedExactly = (N : List ℕ) (k : Kit) → List·Memᴰ k (listed N) ↔ (List·Memᴰ k (held N) × (0 < length (k .row)))
+
+-- "A kit fits a bin exactly when, for each part, the kit's quantity is no more than the bin's": the kits shown within a bin are exactly
+-- the kits with a unit of which that is so. Proof: Questions, `fits-exactly`
 abbrev pub FitsExactly : Type 0
 FitsExactly = (bin N : List ℕ) (k : Kit) → List·Memᴰ k (fitting isWithin bin N) ↔ (List·Memᴰ k (listed N) × Within (k .row) (units bin))
 
@@ -87,6 +94,10 @@ ShowsNothing = (R : List ℕ) (p : ℕ) → isRefused (answer (showing p R)) ≡
 
 ------------------------------------------------------------------------
 -- The same from any list of calls, in terms of what the accepted calls left, and never of a table
+
+-- [14.28] no empty kit is ever held, so that what is said of the kits held is said of the kits entered. Proof: NeverEmpty, `never-empty`
+abbrev pub NeverEmpty : Type 0
+NeverEmpty = (a : Catalogue) → Allowed a → held (tablesOf a .nodes) ≡ listed (tablesOf a .nodes)
 
 -- [14.6] these are all that fit, or contain the list; each once, in the fixed order. Proof: Answers, `answering-fits`, `answering-contains`,
 -- `answering-in-order`

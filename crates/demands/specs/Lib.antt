@@ -6,6 +6,7 @@ pub mod Demand2
 pub mod Almost
 pub mod Beginning
 pub mod Demand3
+pub mod NoKit
 pub mod Pins
 pub mod Before
 pub mod Versions

@@ -3,7 +3,7 @@
 use mathlib.Core.Path.{_≡_}
 use mathlib.Core.List.{List, List·Memᴰ, [], _++_, _∷_}
 use Prim.Native.Nat.{_*_, _+_, _-_, _<_, _≤_, ℕ}
-use lib.ListN.{length, replicate}
+use lib.ListN.{getD, length, replicate}
 use lib.Dec.{ltb}
 use Rattle.ground.specs.Limits.{mostParts, twoLimit}
 use Rattle.ground.specs.Lists.{keep}
@@ -15,13 +15,17 @@ use Rattle.nodes.specs.Nodes.{mostNodes, wordsPerNode}
 use Rattle.nodes.specs.Held.{Kit, dropKit, inOrder, tagsOf}
 use Rattle.shortfalls.specs.Shortfalls.{isAlmost, mostShort, shortsOf}
 use Rattle.sheet.specs.Bytes.{Bytes}
-use Rattle.sheet.specs.Sheet.{Contents}
+use Rattle.sheet.specs.Sheet.{Contents, withoutEmpty}
 use Rattle.sheet.specs.Reading.{decode, said}
 use Rattle.catalogue.specs.Calls.{Call, Question, allAlmost, allContaining, allWithin, anyContaining, anyWithin, contents, countKits, deleteKit}
 use Rattle.catalogue.specs.Calls.{emptyBoth, findKit, insertKit, lookUp, planOf, readSheet, registerPart, showAt, writeSheet}
 
 abbrev pub has : List (List ℕ) → List Kit → Contents
 has ps ks = record { parts = ps; kits = ks }
+
+-- a kit without a unit, and with this tag
+abbrev pub emptyKit : ℕ → Kit
+emptyKit t = record { row = []; tag = t }
 
 unfoldable pub accepted : Call → Contents → Contents
 accepted emptyBoth m = has [] []
@@ -38,7 +42,7 @@ accepted (allWithin l o) m = m
 accepted (allContaining l o) m = m
 accepted (allAlmost d l o) m = m
 accepted (writeSheet o) m = m
-accepted (readSheet s) m = said (decode s)
+accepted (readSheet s) m = withoutEmpty (said (decode s))
 
 unfoldable pub step : Call → Reply → Contents → Contents
 step c (done v) m = accepted c m
@@ -57,13 +61,21 @@ unfoldable pub log : List Call → Tables → List (Call × Reply)
 log [] T = []
 log (c ∷ cs) T = (c, answer (planOf c T)) ∷ log cs (memory (planOf c T) T)
 
+-- what the types say: of a call, that a tag is a 16-bit number and a sheet is bytes; of lent tables, that the nodes are 16-bit words
+pub record TypesSay (c : Call) : Type 0 where
+  pub tag : (l : List ℕ) (t : ℕ) → insertKit l t ≡ c → t < twoLimit
+  pub sheet : (s : List ℕ) → readSheet s ≡ c → Bytes s
+
+abbrev pub Words : Tables → Type 0
+Words T = (i : ℕ) → getD (T .nodes) i 0 < twoLimit
+
 -- "each begun empty and brought on by its own calls, refused ones among them": with room for so many parts and nodes
 pub record Catalogue : Type 0 where
   pub slots : ℕ
   pub room : ℕ
   pub calls : List Call
 
--- of an allowed size; and what the types of the calls say, that a tag is a 16-bit number and a sheet is bytes
+-- of an allowed size; and what the types of the calls say
 pub record Allowed (a : Catalogue) : Type 0 where
   pub some-slot : 1 ≤ a .slots
   pub few-slots : a .slots ≤ mostParts

@@ -2,8 +2,7 @@
 use mathlib.Core.Path.{_≡_}
 use mathlib.Core.List.{List, _∷_}
 use Prim.Native.Nat.{_+_, _<_, _^_, ℕ}
-use lib.ListN.{getD, length}
-use Rattle.ground.specs.Limits.{twoLimit}
+use lib.ListN.{length}
 use Rattle.ground.specs.Calls.{Promise, Reply, answer, done, valueOf}
 use Rattle.ground.specs.Tables.{Tables}
 use Rattle.kits.specs.Kits.{units}
@@ -12,7 +11,7 @@ use Rattle.nodes.specs.Held.{allBeginnings}
 use Rattle.sheet.specs.Bytes.{Bytes}
 use Rattle.catalogue.specs.Calls.{Call, inserting, planOf, readSheet}
 use Rattle.demands.specs.Demand1.{SetsDown, Output, settingDown}
-use Rattle.demands.specs.Model.{Allowed, Catalogue, entered, tablesOf}
+use Rattle.demands.specs.Model.{Allowed, Catalogue, Words, entered, tablesOf}
 
 -- [14.14] Document 01, "What the promises pin": "for every input, refused ones too, each public promise determines the answer and every lent word
 -- and byte afterwards". Proof: Refusals, `tables-pinned`, `output-pinned`
@@ -27,7 +26,7 @@ OutputPinned =
 
 -- [14.15] "Made-up counts fall with the table": "nodes used are always 1 plus the number of different nonempty beginnings of held kits", and "nodes
 -- taken are the growth of the beginnings", in terms of the kits entered. (A listing's value is in `AllAnswers`; "kits read are the sheet's
--- records", in the plan of reading.) Proof: Counts, `nodes-counted`, `nodes-taken`
+-- records", but an empty kit's, in the plan of reading.) Proof: Counts, `nodes-counted`, `nodes-taken`
 abbrev pub NodesCounted : Type 0
 NodesCounted = (a : Catalogue) → Allowed a → length (usedNodes (tablesOf a .nodes)) ≡ 1 + length (allBeginnings (entered a .kits))
 
@@ -37,9 +36,7 @@ NodesTaken =
     (a : Catalogue) (l : List ℕ) (t v : ℕ) → Allowed a → answer (inserting l t (tablesOf a)) ≡ done v → length
     (allBeginnings (record { row = units l; tag = t } ∷ entered a .kits)) ≡ length (allBeginnings (entered a .kits)) + v
 
--- [7.2] "Each answer is a number (0 for done) and a value below 2^32", whatever is lent: the types say that the node table is 16-bit words and a
--- sheet bytes. Proof: Values, `values-fit`
+-- [7.2] "Each answer is a number (0 for done) and a value below 2^32", whatever is lent. Proof: Values, `values-fit`
 abbrev pub ValuesFit : Type 0
 ValuesFit =
-    (c : Call) (T : Tables) → ((i : ℕ) → getD (T .nodes) i 0 < twoLimit) → ((s : List ℕ) → readSheet s ≡ c → Bytes s) → valueOf
-    (answer (planOf c T)) < 2 ^ 32
+    (c : Call) (T : Tables) → Words T → ((s : List ℕ) → readSheet s ≡ c → Bytes s) → valueOf (answer (planOf c T)) < 2 ^ 32

@@ -27,6 +27,7 @@ use Rattle.demands.specs.Model.{answering, listingOf}
 use Rattle.demands.specs.Demand1.{told}
 use Rattle.demands.proofs.Values.{place-known}
 use Rattle.demands.proofs.Brought.{Brought, brought}
+use Rattle.demands.proofs.NeverEmpty.{AllListed, never-empty}
 use Rattle.demands.proofs.Sizes.{sizes}
 use Rattle.desk_lines.specs.Sizes.{deskSlots, deskNodes, outputPlaces}
 use Rattle.desk_text.specs.Letters as letter
@@ -85,10 +86,11 @@ front-among ns n (done p) q (typed l) f g h = (f p refl, h)
 front-among ns n (done p) q (stopped k v) f g h = h
 
 -- Tables of the desk's size that have m
-module _ {T : Tables} {m : Contents} (b : Brought T m) (hs : slotCount (T .register) ≡ deskSlots) (hr : size (T .nodes) ≡ deskNodes) where
+module _ {T : Tables} {m : Contents} (b : Brought T m) (all : AllListed T) (hs : slotCount (T .register) ≡ deskSlots)
+    (hr : size (T .nodes) ≡ deskNodes) where
   -- what a call answers is among some numbers if what is told is
   told-among : (ns : List ℕ) (c : Call) → Among ns (numberOf (told deskSlots deskNodes m c)) → Among ns (numberOf (answer (planOf c T)))
-  told-among ns c h = subst (λ (r : Reply). Among ns (numberOf r)) (sym (is-told b hs hr c)) h
+  told-among ns c h = subst (λ (r : Reply). Among ns (numberOf r)) (sym (is-told b all hs hr c)) h
 
   -- P and W
   register-among : (n : List ℕ) → Among (numbersOf letter.registers) (numberOf (answer (planOf (registerPart n) T)))
@@ -111,7 +113,7 @@ module _ {T : Tables} {m : Contents} (b : Brought T m) (hs : slotCount (T .regis
 
     look-known : (n : List ℕ) (p : ℕ) → answer (planOf (lookUp n) T) ≡ done p → p ≤ length (m .parts)
     unfolding told placeIn
-    look-known n p e = omega (arith, done-value _ _ p (sym (is-told b hs hr (lookUp n)) ∙ e), place-known 1 n (m .parts) (omega arith))
+    look-known n p e = omega (arith, done-value _ _ p (sym (is-told b all hs hr (lookUp n)) ∙ e), place-known 1 n (m .parts) (omega arith))
 
     typed-among : (fs : List (List ℕ)) → TypedAmong ns (length (m .parts)) (lookedUp (T .register) fs)
     unfolding lookedUp planOf answer
@@ -149,7 +151,7 @@ module _ {T : Tables} {m : Contents} (b : Brought T m) (hs : slotCount (T .regis
           omega (
             arith,
             hr,
-            ap length (b .kits),
+            ap length (all ∙ b .kits),
             order-many (map (kitAt (T .nodes)) ends),
             length-map ends (kitAt (T .nodes)),
             keep-short (tagged (T .nodes)) (from 0 (size (T .nodes))),
@@ -174,13 +176,14 @@ module _ {T : Tables} {m : Contents} (b : Brought T m) (hs : slotCount (T .regis
       unfolding told
       all-containing-among o h = told-among ns (allContaining l o) (listing-among isContaining o h)
 
-      insert-among : (t : ℕ) → Among ns 7 → Among ns 8 → Among ns 9 → Among ns 10 → Among ns 12 →
+      insert-among : (t : ℕ) → Among ns 7 → Among ns 8 → Among ns 9 → Among ns 10 → Among ns 12 → Among ns 19 →
           Among ns (numberOf (answer (planOf (insertKit l t) T)))
       unfolding told
-      insert-among t a7 a8 a9 a10 a12 =
+      insert-among t a7 a8 a9 a10 a12 a19 =
           told-among ns (insertKit l t)
           (decided-among ns _ _ a0
-          (also (λ _. a8) (every-append faults-among (also (λ _. a7) (also (λ _. a9) (also (λ _. a10) (also (λ _. a12) no-more)))))))
+          (also (λ _. a8) (every-append faults-among
+          (also (λ _. a7) (also (λ _. a19) (also (λ _. a9) (also (λ _. a10) (also (λ _. a12) no-more))))))))
 
 ------------------------------------------------------------------------
 -- Lines
@@ -197,8 +200,8 @@ module _ (x : ℕ) (nr : eqb x letter.registers ≡ false) (nw : eqb x letter.wr
   insert-number : eqb x letter.inserts ≡ true → (n : ℕ) → Among (numbersOf letter.inserts) n → Among (numbersOf x) n
   insert-number h n g = subst (λ (y : ℕ). Among (numbersOf y) n) (sym (eqb-true x letter.inserts h)) g
 
-module _ {T : Tables} {m : Contents} (b : Brought T m) (hs : slotCount (T .register) ≡ deskSlots) (hr : size (T .nodes) ≡ deskNodes)
-    (o : List ℕ) (room : outputPlaces ≤ length o) where
+module _ {T : Tables} {m : Contents} (b : Brought T m) (all : AllListed T) (hs : slotCount (T .register) ≡ deskSlots)
+    (hr : size (T .nodes) ≡ deskNodes) (o : List ℕ) (room : outputPlaces ≤ length o) where
   module _ (x t : ℕ) (nr : eqb x letter.registers ≡ false) (nw : eqb x letter.writes ≡ false) where
     a0 : Among (numbersOf x) 0
     unfolding numbersOf anyb
@@ -226,26 +229,26 @@ module _ {T : Tables} {m : Contents} (b : Brought T m) (hs : slotCount (T .regis
       unfolding numbersOf anyb planOf
       inserted h =
           let f = insert-number x nr nw h in
-          insert-among b hs hr (numbersOf x) a0 a3 a4 a6 a11 l k t (f 7 refl) (f 8 refl) (f 9 refl) (f 10 refl) (f 12 refl)
+          insert-among b all hs hr (numbersOf x) a0 a3 a4 a6 a11 l k t (f 7 refl) (f 8 refl) (f 9 refl) (f 10 refl) (f 12 refl) (f 19 refl)
 
       called-among : Among (numbersOf x) (numberOf (answer (callOf x t l T)))
       unfolding callOf planOf
       called-among =
           let P : Plan Tables → Type 0 = λ p. Among (numbersOf x) (numberOf (answer p)) in
           by-cond P (eqb x letter.inserts) (inserting l t T) _ inserted (λ _.
-          by-cond P (eqb x letter.finds) (finding l T) _ (λ _. find-among b hs hr (numbersOf x) a0 a3 a4 a6 a11 l k) (λ _.
-          by-cond P (eqb x letter.deletes) (deleting l T) _ (λ _. delete-among b hs hr (numbersOf x) a0 a3 a4 a6 a11 l k) (λ _.
+          by-cond P (eqb x letter.finds) (finding l T) _ (λ _. find-among b all hs hr (numbersOf x) a0 a3 a4 a6 a11 l k) (λ _.
+          by-cond P (eqb x letter.deletes) (deleting l T) _ (λ _. delete-among b all hs hr (numbersOf x) a0 a3 a4 a6 a11 l k) (λ _.
           by-cond P (eqb x letter.anyWithin) (anyKit isWithin l T) (anyKit isContaining l T)
-          (λ _. within-among b hs hr (numbersOf x) a0 a3 a4 a6 a11 l k)
-          (λ _. containing-among b hs hr (numbersOf x) a0 a3 a4 a6 a11 l k))))
+          (λ _. within-among b all hs hr (numbersOf x) a0 a3 a4 a6 a11 l k)
+          (λ _. containing-among b all hs hr (numbersOf x) a0 a3 a4 a6 a11 l k))))
 
       asked-said : SaidBy (asked x t o T l)
       unfolding asked called shown planOf answer
       asked-said =
           by-cond SaidBy (eqb x letter.allWithin) _ _
-          (λ _. reply x _ _ _ (all-within-among b hs hr (numbersOf x) a0 a3 a4 a6 a11 l k o room)) (λ _.
+          (λ _. reply x _ _ _ (all-within-among b all hs hr (numbersOf x) a0 a3 a4 a6 a11 l k o room)) (λ _.
           by-cond SaidBy (eqb x letter.allContaining) _ _
-          (λ _. reply x _ _ _ (all-containing-among b hs hr (numbersOf x) a0 a3 a4 a6 a11 l k o room))
+          (λ _. reply x _ _ _ (all-containing-among b all hs hr (numbersOf x) a0 a3 a4 a6 a11 l k o room))
           (λ _. reply x _ _ _ called-among))
 
     with-said : (r : Typed) → TypedAmong (numbersOf x) (length (m .parts)) r → SaidBy (withList x T (asked x t o T) r)
@@ -255,14 +258,14 @@ module _ {T : Tables} {m : Contents} (b : Brought T m) (hs : slotCount (T .regis
 
     ask-said : (fs : List (List ℕ)) → SaidBy (askLine x t fs o T)
     unfolding askLine
-    ask-said fs = with-said (lookedUp (T .register) fs) (typed-among b hs hr (numbersOf x) a0 a3 a4 a6 a11 fs)
+    ask-said fs = with-said (lookedUp (T .register) fs) (typed-among b all hs hr (numbersOf x) a0 a3 a4 a6 a11 fs)
 
   line-said : (p : Parsed) (s : List ℕ) → SaidBy (atDesk p o s T)
   unfolding atDesk registerLine writeLine called shown planOf answer
   line-said none s = other
   line-said (line x t fs) s =
-      by-cond SaidBy (eqb x letter.registers) _ _ (λ _. reply letter.registers _ _ _ (register-among b hs hr (getD fs 0 []))) (λ nr.
-      by-cond SaidBy (eqb x letter.writes) _ _ (λ _. reply letter.writes _ _ _ (write-among b hs hr s)) (λ nw.
+      by-cond SaidBy (eqb x letter.registers) _ _ (λ _. reply letter.registers _ _ _ (register-among b all hs hr (getD fs 0 []))) (λ nr.
+      by-cond SaidBy (eqb x letter.writes) _ _ (λ _. reply letter.writes _ _ _ (write-among b all hs hr s)) (λ nw.
       ask-said x t nr nw fs))
 
 pub never-said : NeverSaid
@@ -271,4 +274,4 @@ never-said input l o s room =
     let d = desk-is-catalogue input in
     let z = sizes (deskOf input) (d .1) in
     subst (λ (T : Tables). SaidBy (atDesk (parsed l) o s T)) (sym (d .0))
-    (line-said (brought (deskOf input) (d .1)) (z .slots) (z .room) o room (parsed l) s)
+    (line-said (brought (deskOf input) (d .1)) (never-empty (deskOf input) (d .1)) (z .slots) (z .room) o room (parsed l) s)

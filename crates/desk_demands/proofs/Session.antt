@@ -12,7 +12,7 @@ use Rattle.desk_lists.specs.Typed.{inFrontOf, lookedUp}
 use Rattle.desk_lines.specs.Sizes.{emptyDesk}
 use Rattle.desk_lines.specs.Desk.{called, shown, sheetText, registerLine, writeLine, withList, callOf, asked, askLine, atDesk}
 use Rattle.desk_demands.specs.Text.{bytesOf, textOf, repliesTo, replyText}
-use Rattle.desk_demands.specs.Session.{session, sessionReplies, SessionReplied, LettersReplied, TornReplied, LineCases}
+use Rattle.desk_demands.specs.Session.{session, sessionReplies, SessionReplied, LettersReplied, TornReplied, EmptyReplied, LineCases}
 
 -- opens every definition that taking a line apart uses
 unfoldable lineOpened : Bool
@@ -37,6 +37,10 @@ letters-replied = refl
 pub torn-replied : TornReplied
 unfolding replyOpened
 torn-replied = refl
+
+pub empty-replied : EmptyReplied
+unfolding replyOpened
+empty-replied = refl
 
 pub line-cases : LineCases
 unfolding lineOpened

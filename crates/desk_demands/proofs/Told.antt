@@ -20,6 +20,7 @@ use Rattle.catalogue.specs.Calls.{allWithin, allContaining, writeSheet, planOf,
 use Rattle.demands.specs.Model.{entered}
 use Rattle.demands.specs.Demand1.{told}
 use Rattle.demands.proofs.Brought.{Brought, brought}
+use Rattle.demands.proofs.NeverEmpty.{AllListed, never-empty}
 use Rattle.demands.proofs.Sizes.{sizes}
 use Rattle.demands.proofs.Answers.{the-fitting, has-contents}
 use Rattle.demands.proofs.Told.{call-told}
@@ -54,9 +55,10 @@ EndsIf m x (typed l) cs = Unit
 EndsIf m x (stopped n v) cs = Ends m x n v cs
 
 -- Tables of the desk's size that have m
-module _ {T : Tables} {m : Contents} (b : Brought T m) (hs : slotCount (T .register) ≡ deskSlots) (hr : size (T .nodes) ≡ deskNodes) where
+module _ {T : Tables} {m : Contents} (b : Brought T m) (all : AllListed T) (hs : slotCount (T .register) ≡ deskSlots)
+    (hr : size (T .nodes) ≡ deskNodes) where
   pub is-told : (c : Call) → answer (planOf c T) ≡ told deskSlots deskNodes m c
-  is-told c = call-told b deskSlots deskNodes hs hr c
+  is-told c = call-told b all deskSlots deskNodes hs hr c
 
   -- a call that shows nothing, and one that sets something down
   call-line : (x : ℕ) (c : Call) → shownFor m c ≡ [] →
@@ -173,4 +175,4 @@ desk-told input l o s =
     let a = deskOf input in
     let z = sizes a (d .1) in
     subst (λ (T : Tables). atDesk (parsed l) o s T .says ≡ toldOf (letterOf (parsed l)) (entered a) (callsOfLine (parsed l) o s T))
-    (sym (d .0)) (line-told (brought a (d .1)) (z .slots) (z .room) (parsed l) o s)
+    (sym (d .0)) (line-told (brought a (d .1)) (never-empty a (d .1)) (z .slots) (z .room) (parsed l) o s)

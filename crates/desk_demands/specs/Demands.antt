@@ -91,7 +91,7 @@ unfoldable pub numbersOf : ℕ → List ℕ
 numbersOf x =
     cond (eqb x letter.registers) (0 ∷ 3 ∷ 9 ∷ 12 ∷ 16 ∷ [])
     (cond (eqb x letter.writes) (0 ∷ 12 ∷ [])
-    (cond (eqb x letter.inserts) (0 ∷ 3 ∷ 4 ∷ 6 ∷ 7 ∷ 8 ∷ 9 ∷ 10 ∷ 11 ∷ 12 ∷ [])
+    (cond (eqb x letter.inserts) (0 ∷ 3 ∷ 4 ∷ 6 ∷ 7 ∷ 8 ∷ 9 ∷ 10 ∷ 11 ∷ 12 ∷ 19 ∷ [])
     (0 ∷ 3 ∷ 4 ∷ 6 ∷ 11 ∷ [])))
 
 -- a reply: `?`, or a letter with one of its numbers

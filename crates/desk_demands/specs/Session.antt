@@ -63,6 +63,12 @@ TornReplied =
     replyText 2 1 1 1 (textOf ("P CD4016-" ∷ "P CD4016" ∷ "P CD4016-" ∷ "F CD4016- 1" ∷ []))
     ≡ textOf ("P 16 0" ∷ "P 0 1" ∷ "P 16 0" ∷ "F 11 0" ∷ [])
 
+-- [14.20] request 14: an empty list is no kit, and a tag of 0 comes first. Proof: proofs/Session, `empty-replied`
+abbrev pub EmptyReplied : Type 0
+EmptyReplied =
+    replyText 1 2 1 1 (textOf ("K 5" ∷ "K 0" ∷ "P A" ∷ "K 5 A 1" ∷ "K 5" ∷ "F" ∷ "b" ∷ []))
+    ≡ textOf ("K 19 0" ∷ "K 8 0" ∷ "P 0 1" ∷ "K 0 1" ∷ "K 19 0" ∷ "F 11 0" ∷ "b 0 0" ∷ [])
+
 -- a line typed, taken apart
 abbrev pub lineTyped : String → Parsed
 lineTyped l = parsed (bytesOf l)

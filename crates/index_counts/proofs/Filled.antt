@@ -6,8 +6,6 @@ use mathlib.Core.List.{List, [], _∷_, List·Memᴰ, List·Memᴰ·head, List·
 use Prim.Native.Nat.{ℕ, _+_, _≤_, _<_}
 use native.Mathlib.Omega.{arith}
 use lib.ListN.{length}
-use lib.Dec.{eqb}
-use Rattle.ground.specs.Lists.{anyb}
 use Rattle.kits.specs.Inner.{GoodRow}
 use Rattle.nodes.specs.Nodes.{size}
 use Rattle.nodes.specs.Inner.{Sound}
@@ -18,6 +16,7 @@ use Rattle.nodes.proofs.Listing.{Earlier, listing-same, put-mem, put-new, put-o
 use Rattle.nodes.proofs.Held.{kit, held-rises}
 use Rattle.nodes.proofs.Beginnings.{Begun, beginnings-differ, beginnings-begun, begun-beginnings, nodes-free}
 use Rattle.index_insert.specs.Enter.{enter, enterAll}
+use Rattle.index.specs.Index.{tagTaken}
 use Rattle.index.proofs.Kept.{Accepted, insert-sound, held-after-insert, insert-length}
 use Rattle.index_counts.proofs.Needed.{nodes-needed}
 
@@ -71,7 +70,7 @@ module _ {parts : ℕ} {T : List Kit} {N : List ℕ} {k : Kit} {ks : List Kit} (
   pub acceptable : Accepted (k .row) (k .tag) N
   acceptable = record {
     fresh = fresh-tag (tagIn r (held N)) refl;
-    unborne = unborne-tag (anyb (eqb t) (tagsOf (held N))) refl;
+    unborne = unborne-tag (tagTaken N t) refl;
     room =
         omega (
           arith,
@@ -90,7 +89,7 @@ module _ {parts : ℕ} {T : List Kit} {N : List ℕ} {k : Kit} {ks : List Kit} (
           (λ (g : u ≢ 0). let o = tag-from r (held N) (λ z. g (sym e ∙ z)) in absurd (F .new (o .0) k (o .1) first .rows (o .2)))
           (same-or u 0)
 
-      unborne-tag : (b : Bool) → anyb (eqb t) (tagsOf (held N)) ≡ b → b ≡ false
+      unborne-tag : (b : Bool) → tagTaken N t ≡ b → b ≡ false
       unborne-tag false e = refl
       unborne-tag true e =
           let o = tags-mem t (held N) (anyb-eqb t (tagsOf (held N)) e) in absurd (F .new (o .0) k (o .1) first .tags (o .2))

@@ -7,24 +7,24 @@ use Prim.Native.Nat.{ℕ, suc, _-_, _≤_, _<_}
 use native.Mathlib.Omega.{arith}
 use lib.ListN.{length, take, length-append, length-take}
 use lib.Seq.{take-take, length-take-le}
-use lib.Dec.{eqb}
-use borrow.Author.Tests.{lt-ltb, le-ltb}
-use Rattle.ground.specs.Lists.{anyb, from}
-use Rattle.ground.specs.Calls.{done, refused, decide, answer}
+use Rattle.ground.specs.Lists.{from}
+use Rattle.ground.specs.Calls.{numberOf, answer}
 use Rattle.ground.proofs.Laws.{length-map-from, le-or}
 use Rattle.nodes.specs.Nodes.{depth, rowOf, freeNodes}
 use Rattle.nodes.specs.Inner.{Used, Shape, Sound}
-use Rattle.nodes.specs.Held.{Kit, putKit, held, tagIn, tagsOf, allBeginnings}
+use Rattle.nodes.specs.Held.{Kit, putKit, held, tagIn, allBeginnings}
+use Rattle.nodes.proofs.Lists.{same-or}
 use Rattle.nodes.proofs.Sorted.{Rising, mem-every, rising-append, rising-from, rising-refine, rising-mapped, from-mem, mem-from, same-length}
 use Rattle.nodes.proofs.Rows.{climb, row-length, deep-used, Ancestor, ancestor}
 use Rattle.nodes.proofs.Listing.{put-mem, put-new, put-old}
 use Rattle.nodes.proofs.Held.{kit}
 use Rattle.nodes.proofs.Beginnings.{Part, Begun, beginnings-differ, beginnings-begun, begun-beginnings, used-begun, begun-used}
 use Rattle.index_insert.specs.Enter.{lacks}
-use Rattle.index.specs.Index.{entryRefusals}
+use Rattle.index.specs.Index.{tagTaken}
 use Rattle.index.specs.Inner.{insertingRow, Deepest}
 use Rattle.index_counts.specs.Inner.{AddsWhatItLacks, NoRoomExactly}
 use Rattle.index.proofs.Way.{Way, way, deep-lacks, none-longer}
+use Rattle.index.proofs.Answers.{inserting-19, inserting-12, inserting-done}
 
 module _ {parts : ℕ} {N : List ℕ} (So : Sound parts N) (r : List ℕ) (t : ℕ) where
   abbrev S : Shape parts N
@@ -135,23 +135,21 @@ module _ {parts : ℕ} {N : List ℕ} (So : Sound parts N) (r : List ℕ) (t : �
       ∙ omega (arith, length-append L B, long-is, deep-lacks S D)
 
   -- 12 exactly when the beginnings that the row would add are more than the free nodes
-  module _ (z : tagIn r (held N) ≡ 0) (b : anyb (eqb t) (tagsOf (held N)) ≡ false) where
-    full : length (freeNodes N) < lacks N 0 r → answer (insertingRow r t N) ≡ refused 12 (lacks N 0 r - length (freeNodes N))
-    unfolding answer decide insertingRow entryRefusals
-    full h = rw (z, b, lt-ltb (length (freeNodes N)) (lacks N 0 r) h)
-
-    roomy : lacks N 0 r ≤ length (freeNodes N) → answer (insertingRow r t N) ≡ done (lacks N 0 r)
-    unfolding answer decide insertingRow entryRefusals
-    roomy h = rw (z, b, le-ltb (length (freeNodes N)) (lacks N 0 r) h)
+  module _ (z : tagIn r (held N) ≡ 0) (b : tagTaken N t ≡ false) where
+    -- with room it is done, or 19 where the row has no unit
+    roomy : lacks N 0 r ≤ length (freeNodes N) → numberOf (answer (insertingRow r t N)) ≢ 12
+    roomy h e = ⊎-elim
+        (λ (i : length r ≡ 0). omega (arith, ap numberOf (inserting-19 r N t i)))
+        (λ (u : length r ≢ 0). omega (arith, ap numberOf (inserting-done r N t u z b h)))
+        (same-or (length r) 0)
 
     pub no-room-exactly : NoRoomExactly N r t
     no-room-exactly = (
       λ e. ⊎-elim
-          (λ (h : lacks N 0 r ≤ length (freeNodes N)). absurd (apart (sym (roomy h) ∙ e)))
+          (λ (h : lacks N 0 r ≤ length (freeNodes N)). absurd (roomy h (ap numberOf e)))
           (λ (h : length (freeNodes N) < lacks N 0 r). omega (arith, nodes-needed))
           (le-or (lacks N 0 r) (length (freeNodes N))),
-      λ h. full (omega (arith, nodes-needed)),
+      λ h.
+          let more : length (freeNodes N) < lacks N 0 r = omega (arith, nodes-needed) in
+          inserting-12 r N t (λ i. omega (arith, deep-lacks S D)) z b more,
     )
-      where
-        apart : {u n v : ℕ} → done u ≡ refused n v → ⊥
-        apart q = let z : _≡_ {A = ℕ} 0 1 = cc in omega arith

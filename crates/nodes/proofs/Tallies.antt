@@ -9,6 +9,7 @@ use native.Mathlib.Omega.{arith}
 use lib.ListN.{length, take, drop, length-append, List·getD-eq-default}
 use lib.Seq.{take-append-le, take-all}
 use lib.Dec.{eqb}
+use mir.Val.{boolByte}
 use borrow.Author.Tests.{eq-eqb, ne-eqb, eqb-true}
 use Rattle.ground.specs.Lists.{anyb, eqList, keep, from}
 use Rattle.ground.proofs.Laws.{by-cond, same-cases, eqList-true, eqList-refl, or-no, length-from, le-or}
@@ -88,6 +89,10 @@ module _ {parts : ℕ} {N : List ℕ} (S : Shape parts N) where
 -- one or none
 abbrev pub one-if : Bool → ℕ
 one-if b = cond b 1 0
+
+pub one-byte : (b : Bool) → boolByte b ≡ one-if b
+one-byte true = refl
+one-byte false = refl
 
 keep-one : {A : Type 0} (p : A → Bool) (x : A) (xs : List A) → length (keep p (x ∷ xs)) ≡ one-if (p x) + length (keep p xs)
 unfolding keep

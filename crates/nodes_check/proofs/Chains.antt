@@ -25,7 +25,7 @@ use Rattle.nodes.proofs.Sorted.{rising-from, keep-short, keep-mem, mem-keep, no
 use Rattle.nodes.proofs.Rows.{used-pos, live-inside}
 use Rattle.nodes.proofs.Decided.{node-in, in-node}
 use Rattle.nodes.proofs.Chain.{left, left-less, chain-on, chain-step, chain-short, children-have, children-used, children-apart}
-use Rattle.nodes.proofs.Tallies.{no-chain}
+use Rattle.nodes.proofs.Tallies.{one-byte, no-chain}
 use Rattle.nodes_check.specs.Inner.{Kin, chainLength, chainTags, Walked, tallied, Tallied, AllChained, Chains}
 use Rattle.nodes_check.proofs.Answers.{says-eq}
 
@@ -86,10 +86,6 @@ module _ {N : List ℕ} (B : Siblings N) {h : ℕ} where
 
 ------------------------------------------------------------------------
 -- A node's own tag, and its chain
-
-one-byte : (b : Bool) → boolByte b ≡ cond b 1 0
-one-byte true = refl
-one-byte false = refl
 
 pub tally-told : (N : List ℕ) (i : ℕ) {t w below : ℕ} → t ≡ tag N i → w ≡ tally N i → below ≡ chainTags N (child N i) →
     eqb w (boolByte (not (eqb t 0)) + below) ≡ tallied N i

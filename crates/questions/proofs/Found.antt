@@ -2,7 +2,7 @@
 use mathlib.Core.Path.{_≡_, refl, sym, ap, _∙_}
 use mathlib.Core.Bool.{Bool, true, false, cond, not, _&&_}
 use mathlib.Core.List.{List, [], _∷_, _++_, map, append-assoc, append-nil, List·Memᴰ}
-use Prim.Native.Nat.{ℕ, zero, suc, _≤_, _<_}
+use Prim.Native.Nat.{ℕ, zero, suc, _+_, _≤_, _<_}
 use native.Mathlib.Omega.{arith}
 use lib.ListN.{length, length-map}
 use lib.Dec.{eqb}
@@ -10,14 +10,14 @@ use borrow.Author.Tests.{ne-eqb}
 use Rattle.ground.specs.Lists.{keep, from}
 use Rattle.ground.specs.Laid.{Put}
 use Rattle.ground.proofs.Laws.{length-from}
-use Rattle.nodes.specs.Nodes.{parent, child, next, label, tag, tagged, size, rowOf}
+use Rattle.nodes.specs.Nodes.{mostNodes, parent, child, next, label, tag, tagged, size, rowOf}
 use Rattle.nodes.specs.Inner.{Used, Live, Shape, walk, walkAll}
-use Rattle.nodes.specs.Held.{Kit, tagsOf, kitAt, held}
+use Rattle.nodes.specs.Held.{Kit, tagsOf, kitAt, someUnit, held, listed}
 use Rattle.nodes.proofs.Sorted.{keep-append, keep-same, keep-short, no-longer, mem-from}
 use Rattle.nodes.proofs.Rows.{climb, used-pos, live-inside, row-step}
 use Rattle.nodes.proofs.Walk.{walk-none, walk-some, ind}
 use Rattle.nodes.proofs.Order.{walk-once, walk-only}
-use Rattle.nodes.proofs.Held.{held-is-walk}
+use Rattle.nodes.proofs.Units.{listed-is-walk}
 use Rattle.questions.specs.Inner.{answers, foundFrom, foundIn, ifTag}
 
 -- a word of node i with the tag t, where the test b says yes
@@ -53,21 +53,13 @@ module _ {parts : ℕ} {N : List ℕ} (S : Shape parts N) (test : List ℕ → B
       ∙ keep-append (answers test N) (i ∷ []) (walk N (child N i) ++ walk N (next N i))
       ∙ ap (λ l. ownOf i ++ l) (keep-append (answers test N) (walk N (child N i)) (walk N (next N i)))
 
-  -- the whole walk: the root first
-  pub found-root : foundIn test N ≡ keep (answers test N) (0 ∷ []) ++ foundFrom test N (child N 0)
-  unfolding foundIn foundFrom walkAll
-  found-root = keep-append (answers test N) (0 ∷ []) (walk N (child N 0))
-
-  -- no more than the table has nodes
-  pub found-few : length (foundIn test N) ≤ size N
-  unfolding foundIn
-  found-few = omega (
-    arith,
-    keep-short (answers test N) (walkAll N),
-    length-from 0 (size N),
-    no-longer (walkAll N) (from 0 (size N)) (walk-once S)
-        (λ i m. mem-from (size N) 0 i (omega arith) (omega (arith, live-inside (climb S) i (walk-only S i m)))),
-  )
+  -- the whole walk begins at the root's first child, and finds no more than a table may have nodes
+  pub found-few : {k : ℕ} → k ≡ child N 0 → 0 + length (foundFrom test N k) ≤ mostNodes
+  unfolding foundFrom walkAll
+  found-few e =
+      let few : length (0 ∷ walk N (child N 0)) ≤ length (from 0 (size N)) = no-longer (walkAll N) (from 0 (size N)) (walk-once S)
+      (λ i m. mem-from (size N) 0 i (omega arith) (omega (arith, live-inside (climb S) i (walk-only S i m)))) in
+      rw e (omega (arith, keep-short (answers test N) (walk N (child N 0)), length-from 0 (size N), few, S .sized .most))
 
   -- where no row passes that goes on from the node above with a label of at least this one, none does here, below or behind
   pub found-dead : (i : ℕ) → Live N i →
@@ -115,16 +107,17 @@ walk-kits test N (x ∷ xs) = go (test (rowOf N x)) (tagged N x) refl (walk-kits
     go false true e h = rw e h
     go false false e h = h
 
--- the kits held that answer are those at the nodes found
+-- the kits listed that answer are those at the nodes found
 pub kits-found : {parts : ℕ} {N : List ℕ} → Shape parts N → (test : List ℕ → Bool) (q : Kit → Bool) →
-    ((k : Kit) → List·Memᴰ k (held N) → q k ≡ test (k .row)) → keep q (held N) ≡ map (kitAt N) (foundIn test N)
-unfolding foundIn onRow
-kits-found {N = N} S test q f = keep-same q (onRow test) (held N) f ∙ ap (keep (onRow test)) (held-is-walk S) ∙ walk-kits test N (walkAll N)
+    ((k : Kit) → List·Memᴰ k (listed N) → q k ≡ test (k .row)) → keep q (listed N) ≡ map (kitAt N) (foundIn test N)
+unfolding foundFrom onRow
+kits-found {N = N} S test q f =
+    keep-same q (onRow test) (listed N) f ∙ ap (keep (onRow test)) (listed-is-walk S) ∙ walk-kits test N (walk N (child N 0))
 
--- so a walk sets down no more words, one for each node found, than there are kits
+-- so a walk sets down no more words, one for each node found, than there are kits, an empty one among them
 pub no-more-than-kits : {parts : ℕ} {N : List ℕ} → Shape parts N → (test : List ℕ → Bool) (f : ℕ → ℕ) {o o′ : List ℕ} {n r : ℕ} →
     Put o 0 (map f (foundIn test N)) r o′ → n ≡ length (held N) → r ≤ n
-unfolding onRow
+unfolding onRow listed
 no-more-than-kits {N = N} S test f w e =
     let is = foundIn test N in
     omega (
@@ -133,7 +126,8 @@ no-more-than-kits {N = N} S test f w e =
       length-map is f,
       length-map is (kitAt N),
       ap length (kits-found S test (onRow test) (λ k m. refl)),
-      keep-short (onRow test) (held N),
+      keep-short (onRow test) (listed N),
+      keep-short someUnit (held N),
     )
 
 pub tags-at : (N xs : List ℕ) → tagsOf (map (kitAt N) xs) ≡ map (tag N) xs

@@ -1,6 +1,6 @@
 -- Laws of reading one item at a place, and of the head of a sheet.
 use mathlib.Core.Path.{_≡_, refl, _∙_}
-use mathlib.Core.Bool.{Bool, true, false, _&&_, cond, and-false, and-true}
+use mathlib.Core.Bool.{Bool, true, false, _&&_, cond, and-true}
 use mathlib.Core.List.{List, [], _∷_}
 use Prim.Native.Nat.{ℕ, _+_, _-_, _≤_, _<_}
 use native.Mathlib.Omega.{arith}
@@ -16,6 +16,7 @@ use Rattle.sheet.specs.Sheet.{mark, version, markBytes}
 use Rattle.sheet.specs.Inner.{headBytes, versionAt, partsAt}
 use Rattle.sheet.specs.Reading.{Item, item, fault, Reading, onward, one, bytes, anyTwo, versions, isVersion, goodPartCount, numbers}
 use Rattle.sheet.specs.Reading.{Front, front, runOf, whole, decode}
+use Rattle.sheet.proofs.Written.{one-bad}
 use Rattle.sheet_judge.specs.Inner.{behindNumbers, Headed, placeOf}
 
 -- One item
@@ -23,10 +24,6 @@ module _ (size : List ℕ → ℕ) (good : List ℕ → Bool) (bs : List ℕ) (o
   pub one-short : length bs < size bs → one size good bs o ≡ fault o
   unfolding one
   one-short h = rw (lt-leb (size bs) (length bs) h)
-
-  pub one-bad : good (take (size bs) bs) ≡ false → one size good bs o ≡ fault o
-  unfolding one
-  one-bad e = rw (e, and-false)
 
   pub one-ok : size bs ≤ length bs → good (take (size bs) bs) ≡ true →
       one size good bs o ≡ item (take (size bs) bs) (drop (size bs) bs) (o + size bs)
@@ -58,7 +55,7 @@ module _ (size : List ℕ → ℕ) (good : List ℕ → Bool) (bs : List ℕ) (o
       go : (x : Bool) → leb (size bs) (length bs) ≡ x → (y : Bool) → good (take (size bs) bs) ≡ y →
           r ≡ placeOf (cond (x && y) (item (take (size bs) bs) (drop (size bs) bs) (o + size bs)) (fault o)) → one size good bs o ≡ fault o
       go true l true g h = absurd (omega arith)
-      go true l false g h = one-bad g
+      go true l false g h = one-bad size good bs o g
       go false l y g h = one-short (leb-false (size bs) (length bs) l)
 
 pub place-fault : (o : ℕ) → placeOf (fault o) ≡ o

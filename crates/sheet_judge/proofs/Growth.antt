@@ -21,6 +21,7 @@ use Rattle.nodes.specs.Held.{Kit, allBeginnings}
 use Rattle.nodes.proofs.Sorted.{Rising, mem-every, rising-append, rising-refine, rising-mapped, rising-from, from-mem, mem-from, no-longer}
 use Rattle.nodes.proofs.Beginnings.{Part, Begun, beginnings-differ, beginnings-begun, begun-beginnings}
 use Rattle.sheet.specs.Inner.{rising}
+use Rattle.sheet.proofs.Emptied.{rising-tail}
 use Rattle.sheet_judge.specs.Inner.{growth}
 
 -- what two rows share, a row between them shares
@@ -214,11 +215,6 @@ module _ (k : Kit) (ks : List Kit) (s : rising (k ∷ ks) ≡ true) where
 none-begun : length (allBeginnings []) ≡ 0
 unfolding allBeginnings
 none-begun = refl
-
-rising-tail : (k : Kit) (ks : List Kit) → rising (k ∷ ks) ≡ true → rising ks ≡ true
-unfolding rising
-rising-tail k [] s = refl
-rising-tail k (h ∷ t) s = and-right (before (k .row) (h .row)) (rising (h ∷ t)) s
 
 grown : (r : List ℕ) (ks : List Kit) → rising ks ≡ true → growth r ks + agreed r (firstRow ks) ≡ length (allBeginnings ks)
 unfolding growth firstRow

@@ -15,8 +15,9 @@ use Rattle.register.specs.Number.{goodNumber}
 use Rattle.sheet.specs.Reading.{Item, item, fault, onward, one, numberSize, newNumber, numbers}
 use Rattle.sheet.specs.Inner.{headBytes, numbersAt, endAt}
 use Rattle.sheet.proofs.Places.{end-last, numbers-at-last, numbers-many, size-here, size-some, read-here}
+use Rattle.sheet.proofs.Written.{one-bad}
 use Rattle.sheet_judge.specs.Inner.{placeOf, Numbered}
-use Rattle.sheet_judge.proofs.Front.{one-short, one-bad, one-ok, place-fault, place-item, place-moved, place-stays, Moved}
+use Rattle.sheet_judge.proofs.Front.{one-short, one-ok, place-fault, place-item, place-moved, place-stays, Moved}
 
 any-cons : (p : List ℕ → Bool) (x : List ℕ) (xs : List (List ℕ)) → anyb p (x ∷ xs) ≡ (p x || anyb p xs)
 unfolding anyb

@@ -29,16 +29,16 @@ use Rattle.sheet_read.specs.Inner.{kitsRead, endRead, KitsStand}
 use Rattle.sheet_read.proofs.Listed.{kits-fillable, rising-earlier}
 
 module _ (w : ℕ) (s : List ℕ) where
-  kits-step : (at k m : ℕ) → k < m →
+  pub kits-step : (at k m : ℕ) → k < m →
       kitsRead w s at (m - k) ≡ kitIn w (recordAt w s at) ∷ kitsRead w s (at + recordSize w (drop at s)) (m - (k + 1))
   unfolding kitsRead
   kits-step at k m h = let e : m - k ≡ suc (m - (k + 1)) = omega arith in rw e
 
-  kits-none : (at : ℕ) → kitsRead w s at 0 ≡ []
+  pub kits-none : (at : ℕ) → kitsRead w s at 0 ≡ []
   unfolding kitsRead
   kits-none at = refl
 
-  end-step : (at k m : ℕ) → k < m → endRead w s at (m - k) ≡ endRead w s (at + recordSize w (drop at s)) (m - (k + 1))
+  pub end-step : (at k m : ℕ) → k < m → endRead w s at (m - k) ≡ endRead w s (at + recordSize w (drop at s)) (m - (k + 1))
   unfolding endRead
   end-step at k m h = let e : m - k ≡ suc (m - (k + 1)) = omega arith in rw e
 

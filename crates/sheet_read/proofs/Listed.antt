@@ -1,72 +1,39 @@
--- Contents that the format has room for: its tests, and the words in which the node table's laws speak of kits, say the same.
+-- Kits that the format has room for: its tests, and the words in which the node table's laws speak of kits, say the same.
 use mathlib.Core.Path.{_≡_, refl, sym, ap, _∙_}
+use mathlib.Core.Logic.{_≢_}
 use mathlib.Core.Bool.{true, false, not}
 use mathlib.Core.List.{List, [], _∷_, List·Memᴰ·not-nil, Memᴰ·cast}
 use Prim.Native.Nat.{ℕ, _+_, _≤_, _<_}
 use native.Mathlib.Omega.{arith}
 use lib.ListN.{length, length-replicate}
 use lib.Dec.{eqb}
-use borrow.Author.Tests.{leb-true, ltb-true, le-leb, lt-ltb, le-ltb, ne-eqb, not-true}
-use Rattle.ground.specs.Limits.{mostParts, twoLimit}
-use Rattle.ground.specs.Lists.{allb, anyb, every, distinct, eqList}
+use borrow.Author.Tests.{leb-true, le-leb, lt-ltb, ne-eqb, not-true}
+use Rattle.ground.specs.Limits.{twoLimit}
+use Rattle.ground.specs.Lists.{allb, anyb, every, distinct}
 use Rattle.ground.specs.Laid.{zeroed}
-use Rattle.ground.specs.Calls.{answer, decide, memory}
+use Rattle.ground.specs.Calls.{answer, memory}
 use Rattle.ground.proofs.Calls.{leaves-done}
 use Rattle.ground.proofs.Laws.{and-left, and-right, and-both, every-at}
 use Rattle.kits.specs.Kits.{mostUnits, listOf, before, goodList}
 use Rattle.kits.specs.Inner.{GoodRow}
 use Rattle.kits.proofs.Order.{before-transitive}
 use Rattle.kits.proofs.Units.{good-row, units-back, row-list-good}
-use Rattle.register.specs.Number.{goodNumber}
-use Rattle.nodes.specs.Nodes.{size, nodesLength, freeNodes}
-use Rattle.nodes.specs.Held.{Kit, tagsOf, held, allBeginnings}
+use Rattle.nodes.specs.Nodes.{size, nodesLength}
+use Rattle.nodes.specs.Held.{Kit, tagsOf, held, someUnit, withUnits, allBeginnings}
 use Rattle.nodes.proofs.Lists.{never}
 use Rattle.nodes.proofs.Fields.{length-sized}
-use Rattle.nodes.proofs.Sorted.{Every, Rising, none, also, ahead, every-mem, mem-every, every-map, every-map2, allb-mem, eqb-anyb}
+use Rattle.nodes.proofs.Sorted.{Every, Rising, none, also, ahead, every-mem, mem-every, every-map, every-map2, allb-mem, mem-allb, eqb-anyb}
+use Rattle.nodes.proofs.Sorted.{rising-keep, keep-mem}
 use Rattle.nodes.proofs.Listing.{Earlier, OtherTag, earlier-other, tags-mem, mem-tags}
+use Rattle.nodes.proofs.Units.{some-unit-is, units-mem}
 use Rattle.nodes.proofs.Empty.{zeros-sound, zeros-hold-nothing}
 use Rattle.index_insert.specs.Enter.{enter, lacks, enterAll}
-use Rattle.index.specs.Index.{entryRefusals}
 use Rattle.index.specs.Inner.{insertingRow}
+use Rattle.index.proofs.Answers.{inserting-done}
 use Rattle.index.proofs.Kept.{Accepted}
 use Rattle.index_counts.proofs.Filled.{Fit, Apart, Fillable, acceptable, fill-next}
-use Rattle.sheet.specs.Sheet.{Contents}
-use Rattle.sheet.specs.Inner.{goodKit, rising, fitsSheet}
+use Rattle.sheet.specs.Inner.{goodKit, rising}
 use Rattle.sheet.proofs.Fresh.{any-none}
-
--- Contents that fit the format, sentence by sentence
-pub record Fits (c : Contents) : Type 0 where
-  pub few-parts : length (c .parts) ≤ mostParts
-  pub numbers-good : allb goodNumber (c .parts) ≡ true
-  pub numbers-once : distinct eqList (c .parts) ≡ true
-  pub few-kits : length (c .kits) < twoLimit
-  pub kits-good : allb (goodKit (length (c .parts))) (c .kits) ≡ true
-  pub tags-once : distinct eqb (tagsOf (c .kits)) ≡ true
-  pub kits-rise : rising (c .kits) ≡ true
-
-pub fitting-fits : (c : Contents) → fitsSheet c ≡ true → Fits c
-unfolding fitsSheet
-fitting-fits c h = record {
-  few-parts = leb-true (length (c .parts)) mostParts (every-at _ 0 h);
-  numbers-good = every-at _ 1 h;
-  numbers-once = every-at _ 2 h;
-  few-kits = ltb-true (length (c .kits)) twoLimit (every-at _ 3 h);
-  kits-good = every-at _ 4 h;
-  tags-once = every-at _ 5 h;
-  kits-rise = every-at _ 6 h;
-}
-
-pub fits-fitting : (c : Contents) → Fits c → fitsSheet c ≡ true
-unfolding fitsSheet every
-fits-fitting c f =
-    let a = le-leb (length (c .parts)) mostParts (f .few-parts) in
-    let b = f .numbers-good in
-    let d = f .numbers-once in
-    let e = lt-ltb (length (c .kits)) twoLimit (f .few-kits) in
-    let g = f .kits-good in
-    let h = f .tags-once in
-    let i = f .kits-rise in
-    rw (a, b, d, e, g, h, i)
 
 -- each kit before the next, and each before all that follow
 first-of : {R : Kit → Kit → Type 0} {k : Kit} {ks : List Kit} → Rising R (k ∷ ks) → Every (R k) ks
@@ -105,6 +72,16 @@ apart-tags (ahead {x = k} {xs = ks} e s) =
     (ap not (any-none (eqb (k .tag)) (tagsOf ks)
     (λ t m. let o = tags-mem t ks m in ne-eqb (k .tag) t (λ q. every-mem e (o .1) (q ∙ sym (o .2))))))
     (apart-tags s)
+
+-- What the format asks of kits it asks of those with a unit among them
+pub good-with-units : (n : ℕ) (ks : List Kit) → allb (goodKit n) ks ≡ true → allb (goodKit n) (withUnits ks) ≡ true
+good-with-units n ks g = mem-allb (goodKit n) (withUnits ks) (λ k m. allb-mem (goodKit n) ks k g (units-mem k ks .0 m .0))
+
+pub unlike-with-units : (ks : List Kit) → distinct eqb (tagsOf ks) ≡ true → distinct eqb (tagsOf (withUnits ks)) ≡ true
+unlike-with-units ks d = apart-tags (rising-keep someUnit ks (tags-apart ks d))
+
+pub rising-with-units : (ks : List Kit) → rising ks ≡ true → rising (withUnits ks) ≡ true
+rising-with-units ks r = earlier-rising (rising-keep someUnit ks (rising-earlier ks r))
 
 -- a good kit may be entered
 pub kit-fits : (n p : ℕ) (k : Kit) → n ≤ p → goodKit n k ≡ true → Fit p k
@@ -157,24 +134,31 @@ kits-fillable n p ks N h g d r l room =
       room = omega (arith, length-replicate {A = ℕ} (length N) 0);
     }
 
+-- a kit with a unit, which insertion does not refuse for want of one
+abbrev pub HasUnit : Kit → Type 0
+HasUnit k = someUnit k ≡ true
+
+pub have-units : (ks : List Kit) → Every HasUnit (withUnits ks)
+have-units ks = mem-every (withUnits ks) (λ k m. keep-mem someUnit k ks m .1)
+
 -- The next of them is inserted, so that the table is what it enters
-inserting-enters : {p : ℕ} {T : List Kit} {N : List ℕ} {k : Kit} {ks : List Kit} → Fillable p T N (k ∷ ks) →
+inserting-enters : {p : ℕ} {T : List Kit} {N : List ℕ} {k : Kit} {ks : List Kit} → Fillable p T N (k ∷ ks) → HasUnit k →
     memory (insertingRow (k .row) (k .tag) N) N ≡ enter N (k .row) (k .tag)
-unfolding insertingRow entryRefusals answer decide memory
-inserting-enters {N = N} {k = k} F =
+unfolding insertingRow memory
+inserting-enters {N = N} {k = k} F u =
     let A : Accepted (k .row) (k .tag) N = acceptable F in
-    let f = A .fresh in
-    let b = A .unborne in
-    let r = le-ltb (length (freeNodes N)) (lacks N 0 (k .row)) (A .room) in
-    leaves-done (answer (insertingRow (k .row) (k .tag) N)) (lacks N 0 (k .row)) N (enter N (k .row) (k .tag)) (rw (f, b, r))
+    let some : length (k .row) ≢ 0 = λ e. omega (arith, some-unit-is k u) in
+    leaves-done (answer (insertingRow (k .row) (k .tag) N)) (lacks N 0 (k .row)) N (enter N (k .row) (k .tag))
+    (inserting-done (k .row) N (k .tag) some (A .fresh) (A .unborne) (A .room))
 
 -- kits inserted one after the other
 unfoldable pub insertAll : List ℕ → List Kit → List ℕ
 insertAll N [] = N
 insertAll N (k ∷ ks) = insertAll (memory (insertingRow (k .row) (k .tag) N) N) ks
 
-pub inserted-in-order : {p : ℕ} {T : List Kit} (ks : List Kit) (N : List ℕ) → Fillable p T N ks → enterAll N ks ≡ insertAll N ks
+pub inserted-in-order : {p : ℕ} {T : List Kit} (ks : List Kit) (N : List ℕ) → Fillable p T N ks → Every HasUnit ks →
+    enterAll N ks ≡ insertAll N ks
 unfolding enterAll insertAll
-inserted-in-order [] N F = refl
-inserted-in-order (k ∷ ks) N F =
-    inserted-in-order ks (enter N (k .row) (k .tag)) (fill-next F) ∙ ap (λ (M : List ℕ). insertAll M ks) (sym (inserting-enters F))
+inserted-in-order [] N F us = refl
+inserted-in-order (k ∷ ks) N F (also u us) =
+    inserted-in-order ks (enter N (k .row) (k .tag)) (fill-next F) us ∙ ap (λ (M : List ℕ). insertAll M ks) (sym (inserting-enters F u))

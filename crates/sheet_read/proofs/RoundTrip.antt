@@ -1,4 +1,4 @@
--- Read and written again, with room, a sheet is the same sheet; written and read again, with room, a catalogue is the same catalogue.
+-- Read and written again, with room, a sheet without an empty kit is the same sheet; written and read again, with room, a catalogue is the same catalogue.
 use mathlib.Core.Path.{_≡_, refl, ap, sym, subst, _∙_}
 use mathlib.Core.Bool.{true, not}
 use mathlib.Core.List.{List, map, List·Memᴰ, Memᴰ·of-map}
@@ -19,21 +19,24 @@ use Rattle.register.proofs.Sound.{Holds, few-slots, ready-holds, holds-parts}
 use Rattle.register.proofs.Laws.{sound-is-built}
 use Rattle.nodes.specs.Nodes.{at, tagWord, size, nodesLength, nodesOf, tagged}
 use Rattle.nodes.specs.Inner.{Shape, Sound}
-use Rattle.nodes.specs.Held.{Kit, kitAt, held}
+use Rattle.nodes.specs.Held.{Kit, kitAt, held, listed, someUnit, withUnits}
 use Rattle.nodes.proofs.Lists.{kept-and-not}
-use Rattle.nodes.proofs.Sorted.{rising-weaken, no-longer, from-mem, mem-allb}
-use Rattle.nodes.proofs.Listing.{earlier-other, order-mem}
-use Rattle.nodes.proofs.Held.{held-rises, held-holds, held-good, held-tagged, held-tags-differ}
+use Rattle.nodes.proofs.Sorted.{Rising, rising-keep, rising-weaken, no-longer, from-mem, mem-allb}
+use Rattle.nodes.proofs.Listing.{OtherTag, earlier-other, order-mem}
+use Rattle.nodes.proofs.Held.{held-rises, held-holds, held-tags-differ}
+use Rattle.nodes.proofs.Units.{listed-mem, held-and-listed, listed-rises, listed-good, listed-tagged}
 use Rattle.sheet.specs.Bytes.{Bytes}
-use Rattle.sheet.specs.Sheet.{Contents, contentsOf, encode}
+use Rattle.sheet.specs.Sheet.{Contents, contentsOf, withoutEmpty, encode}
 use Rattle.sheet.specs.Inner.{goodKit, fitsSheet}
 use Rattle.sheet.specs.Reading.{decode, isFault, said}
 use Rattle.sheet.specs.Calls.{writingOf, sheetRefusals, roomRefusals}
+use Rattle.sheet.proofs.Fits.{fits-fitting}
+use Rattle.sheet.proofs.Emptied.{contents-without}
 use Rattle.sheet.proofs.Laws.{decode-encode}
 use Rattle.ground.specs.Tables.{Tables}
 use Rattle.sheet_read.specs.Filling.{filling, Roomy}
 use Rattle.sheet_read.specs.Inner.{readingInto}
-use Rattle.sheet_read.proofs.Listed.{fits-fitting, earlier-rising, apart-tags, fits-kit}
+use Rattle.sheet_read.proofs.Listed.{earlier-rising, apart-tags, fits-kit}
 use Rattle.sheet_read.proofs.Reading.{Has, filling-has, reading-again}
 
 -- Writing into an output with room
@@ -42,13 +45,13 @@ written : (c : Contents) (o : List ℕ) → length (encode c) ≤ length o →
 unfolding writingOf
 written c o h = let p = set-down-done (encode c) o h in (sym (p .answers), sym (p .lent))
 
--- A sheet that was read is written again, byte for byte, into any output with room
-pub read-then-write : (s : List ℕ) → Bytes s → (T : Tables) → registerLength (T .register) ≡ true → nodesLength (T .nodes) ≡ true →
-    (v : ℕ) → answer (readingInto s T) ≡ done v → (o : List ℕ) → length s ≤ length o →
+-- A sheet without an empty kit that was read is written again, byte for byte, into any output with room
+pub read-then-write : (s : List ℕ) → Bytes s → withoutEmpty (said (decode s)) ≡ said (decode s) → (T : Tables) →
+    registerLength (T .register) ≡ true → nodesLength (T .nodes) ≡ true → (v : ℕ) → answer (readingInto s T) ≡ done v → (o : List ℕ) → length s ≤ length o →
     (answer (writingOf (contentsOf (memory (readingInto s T) T .register) (memory (readingInto s T) T .nodes)) o) ≡ done (length s))
     × (memory (writingOf (contentsOf (memory (readingInto s T) T .register) (memory (readingInto s T) T .nodes)) o) o ≡ laid o 0 s)
-read-then-write s b T f g v e o h =
-    let q = reading-again s b T f g v e in
+read-then-write s b n T f g v e o h =
+    let q = reading-again s b T f g v e n in
     rw q at (written (contentsOf (memory (readingInto s T) T .register) (memory (readingInto s T) T .nodes)) o (rw q h))
 
 -- each tag of a kit held is a 16-bit number, as it is in a table of 16-bit words
@@ -88,17 +91,21 @@ module _ {R N : List ℕ} (ready : Ready R) (sound : Sound (length (partsOf R)) 
         length-from 0 (size N),
       )
 
+  tags-listed : Rising OtherTag (listed N)
+  unfolding listed
+  tags-listed = rising-keep someUnit (held N) (held-tags-differ sound)
+
   pub catalogue-fits : fitsSheet (contentsOf R N) ≡ true
   catalogue-fits = fits-fitting (contentsOf R N) (record {
     few-parts = omega (arith, H .inside, few-slots R (ready .fits));
     numbers-good = parts-good;
     numbers-once = parts-once;
-    few-kits = omega (arith, few-held, sound .shape .sized .most);
-    kits-good = mem-allb (goodKit (length (partsOf R))) (held N) (λ k m.
-        fits-kit (length (partsOf R)) k (record { row = held-good (sound .shape) k m; some-tag = held-tagged (sound .shape) k m })
-        (small k m));
-    tags-once = apart-tags (held-tags-differ sound);
-    kits-rise = earlier-rising (held-rises (sound .shape));
+    few-kits = omega (arith, few-held, held-and-listed (sound .shape), sound .shape .sized .most);
+    kits-good = mem-allb (goodKit (length (partsOf R))) (listed N) (λ k m.
+        fits-kit (length (partsOf R)) k (record { row = listed-good (sound .shape) k m; some-tag = listed-tagged (sound .shape) k m })
+        (small k (listed-mem N k .0 m .0)));
+    tags-once = apart-tags tags-listed;
+    kits-rise = earlier-rising (listed-rises (sound .shape));
   })
 
   -- Its sheet, read into tables that have room
@@ -106,22 +113,24 @@ module _ {R N : List ℕ} (ready : Ready R) (sound : Sound (length (partsOf R)) 
     abbrev S : List ℕ
     S = encode (contentsOf R N)
 
-    pub write-then-read : answer (readingInto (encode (contentsOf R N)) T) ≡ done (length (held N))
+    pub write-then-read : answer (readingInto (encode (contentsOf R N)) T) ≡ done (length (listed N))
     unfolding readingInto sheetRefusals roomRefusals answer decide isFault said
     write-then-read =
         let d = decode-encode (contentsOf R N) catalogue-fits in
+        let n : withUnits (listed N) ≡ listed N = ap (λ (c : Contents). c .kits) (contents-without R N) in
         let l = le-ltb (slotCount (T .register)) (length (partsOf R)) (room .slots) in
         let k = le-ltb (size (T .nodes)) _ (room .nodes) in
-        rw (d, l, k)
+        rw (d, l, k, n)
 
     leaves : memory (readingInto (encode (contentsOf R N)) T) T ≡ filling (contentsOf R N) T
     unfolding memory readingInto said
     leaves =
         let d = decode-encode (contentsOf R N) catalogue-fits in
-        leaves-done (answer (readingInto S T)) (length (held N)) T (filling (said (decode S)) T) write-then-read ∙ rw d
+        leaves-done (answer (readingInto S T)) (length (listed N)) T (filling (withoutEmpty (said (decode S))) T) write-then-read
+        ∙ (rw d (ap (λ (c : Contents). filling c T) (contents-without R N)))
 
     pub same-catalogue : Has (contentsOf R N) T (memory (readingInto (encode (contentsOf R N)) T) T)
-    same-catalogue = subst (Has (contentsOf R N) T) (sym leaves) (filling-has (contentsOf R N) catalogue-fits T room)
+    same-catalogue = subst (Has (contentsOf R N) T) (sym leaves) (filling-has (contentsOf R N) catalogue-fits (contents-without R N) T room)
 
     -- with as many slots as before, the register is the same in every byte
     pub same-register : slotCount (T .register) ≡ slotCount R → memory (readingInto (encode (contentsOf R N)) T) T .register ≡ R

@@ -18,16 +18,17 @@ use Rattle.register.specs.Number.{longestNumber, goodNumber}
 use Rattle.register.specs.Register.{slotCount, registerLength, registerOf}
 use Rattle.register.proofs.Slots.{number-short}
 use Rattle.nodes.specs.Nodes.{size, nodesLength}
-use Rattle.nodes.specs.Held.{Kit}
+use Rattle.nodes.specs.Held.{Kit, withUnits}
 use Rattle.index_insert.specs.Enter.{enterAll}
 use Rattle.sheet.specs.Bytes.{inBytes, twoBytes, two, Bytes}
 use Rattle.sheet.specs.Sheet.{Contents, placeBytes, numberItem, numberItems, recordItem, recordItems, encodeAs, encode, slotsNeeded}
-use Rattle.sheet.specs.Sheet.{nodesNeeded}
+use Rattle.sheet.specs.Sheet.{nodesNeeded, withoutEmpty}
 use Rattle.sheet.specs.Inner.{goodKit, fitsSheet, headBytes}
 use Rattle.sheet.specs.Reading.{Item, item, fault, recordSize, kitIn, decode, isFault, offset, said}
 use Rattle.sheet.specs.Calls.{sheetRefusals, roomRefusals}
 use Rattle.sheet.specs.declared.Sheet.{Sheet}
 use Rattle.sheet.proofs.Widths.{version-width, version-room}
+use Rattle.sheet.proofs.Fits.{Fits, fitting-fits}
 use Rattle.sheet.proofs.Written.{kit-back, record-size}
 use Rattle.sheet.proofs.Laws.{encode-decode}
 use Rattle.sheet.specs.Inner.{numbersAt, endAt, recordAt}
@@ -36,7 +37,6 @@ use Rattle.sheet_judge.specs.declared.Judged.the-variants.{Fault, Good}
 use Rattle.ground.specs.Tables.{Tables, tables}
 use Rattle.sheet_read.specs.Filling.{filling}
 use Rattle.sheet_read.specs.Inner.{readingInto, kitsRead, endRead, NumbersStand, KitsStand}
-use Rattle.sheet_read.proofs.Listed.{Fits, fitting-fits}
 
 -- Numbers that stand from a place on
 number-on : (s : List ℕ) (at : ℕ) (p : List ℕ) (ps : List (List ℕ)) (rest : List ℕ) → drop at s ≡ numberItems (p ∷ ps) ++ rest →
@@ -243,7 +243,7 @@ reading-13 s T o e = promise-refused (readingInto s T) T 13 o (go (decode s) e)
   where
     go : (m : Item Contents) → Fault o ≡ judgedOf m →
         cond (isFault m) (refused 13 (offset m))
-        (decide (roomRefusals (said m) (slotCount (T .register)) (size (T .nodes))) (length (said m .kits))) ≡ refused 13 o
+        (decide (roomRefusals (said m) (slotCount (T .register)) (size (T .nodes))) (length (withoutEmpty (said m) .kits))) ≡ refused 13 o
     go (item c bs p) f = absurd (let z : _≡_ {A = ℕ} 0 1 = cc in omega arith)
     go (fault p) f = let q : o ≡ p = cc in rw q
 
@@ -311,15 +311,17 @@ module _ {s : List ℕ} {sheet : Sheet} {need : ℕ} (F : Faultless s sheet need
         subst (λ (x : List ℕ). kitsRead (placeBytes n) x (endAt x headBytes n + twoBytes) m ≡ F .says .kits) (again .0)
         (rw (q, p) (kits-read (F .says) (again .1)))
 
-    pub reading-done : (P Q : List ℕ) → P ≡ registerOf (slotCount R) (numbersAt s headBytes n) →
-        Q ≡ enterAll (zeroed N) (kitsRead (placeBytes n) s (endAt s headBytes n + twoBytes) m) →
-        Promise (readingInto s (tables R N)) (tables R N) (done m) (tables P Q)
+    pub reading-done : (P Q : List ℕ) (v : ℕ) → P ≡ registerOf (slotCount R) (numbersAt s headBytes n) →
+        v ≡ length (withUnits (kitsRead (placeBytes n) s (endAt s headBytes n + twoBytes) m)) →
+        Q ≡ enterAll (zeroed N) (withUnits (kitsRead (placeBytes n) s (endAt s headBytes n + twoBytes) m)) →
+        Promise (readingInto s (tables R N)) (tables R N) (done v) (tables P Q)
     unfolding readingInto sheetRefusals roomRefusals answer decide filling
-    reading-done P Q p q =
+    reading-done P Q v p i q =
         let f = no-fault in
         let w = what-said in
         let l = le-ltb (slotCount R) (length (F .says .parts)) (omega (arith, F .parts)) in
         let k = le-ltb (size N) (nodesNeeded (F .says)) (omega (arith, F .nodes)) in
         let x : P ≡ registerOf (slotCount R) (F .says .parts) = p ∙ ap (registerOf (slotCount R)) parts-said in
-        let y : Q ≡ enterAll (zeroed N) (F .says .kits) = q ∙ ap (enterAll (zeroed N)) kits-said in
-        promise-done (readingInto s (tables R N)) (tables R N) m (tables P Q) (rw (f, w, l, k) (ap done (sym kit-count))) (rw (x, y, w) refl)
+        let z : v ≡ length (withUnits (F .says .kits)) = i ∙ ap (λ (ks : List Kit). length (withUnits ks)) kits-said in
+        let y : Q ≡ enterAll (zeroed N) (withUnits (F .says .kits)) = q ∙ ap (λ (ks : List Kit). enterAll (zeroed N) (withUnits ks)) kits-said in
+        promise-done (readingInto s (tables R N)) (tables R N) v (tables P Q) (rw (f, w, l, k) (ap done (sym z))) (rw (x, y, w) refl)

@@ -1,31 +1,35 @@
 -- Inner: no promise of the house rests on what stands here; inner contracts and proofs speak by it.
 -- Reading a sheet into tables of right lengths, and what stands in a sheet from a place on.
 use mathlib.Core.Path.{_≡_}
-use mathlib.Core.Bool.{true}
+use mathlib.Core.Bool.{Bool, true, _&&_}
 use mathlib.Core.List.{List, [], _∷_}
 use Prim.Native.Nat.{ℕ, zero, suc, _+_, _≤_, _<_}
 use lib.ListN.{length, drop, getD}
-use lib.Dec.{eqb}
-use Rattle.ground.specs.Lists.{allb, distinct}
+use lib.Dec.{eqb, ltb}
+use Rattle.ground.specs.Lists.{allb, distinct, isZero}
 use Rattle.ground.specs.Limits.{mostParts}
 use Rattle.ground.specs.Calls.{Plan, plan, Promise}
 use Rattle.answers.specs.declared.Answer.{Answer}
 use Rattle.answers.specs.Answers.{reply}
 use Rattle.repeats.specs.Inner.{nextPlace}
+use Rattle.kits.specs.Kits.{units}
 use Rattle.register.specs.Number.{longestNumber}
 use Rattle.register.specs.Register.{slotCount, registerLength}
 use Rattle.nodes.specs.Nodes.{size, nodesLength}
 use Rattle.nodes.specs.Held.{Kit, tagsOf, allBeginnings}
-use Rattle.sheet.specs.Inner.{Width, goodKit, rising, headBytes, endAt, recordAt}
+use Rattle.sheet.specs.Sheet.{withoutEmpty}
+use Rattle.sheet.specs.Inner.{Width, goodKit, rising, headBytes, endAt, recordAt, listAt}
 use Rattle.sheet.specs.Reading.{decode, said, recordSize, kitIn}
 use Rattle.sheet.specs.Calls.{sheetRefusals}
 use Rattle.ground.specs.Tables.{Tables}
 use Rattle.sheet_read.specs.Filling.{filling}
 
--- 13, then 12; "kits read"
+-- 13, then 12; "kits read", of which an empty kit is none
 unfoldable pub readingInto : List ℕ → Tables → Plan Tables
 readingInto s T =
-    plan (sheetRefusals s (slotCount (T .register)) (size (T .nodes))) (length (said (decode s) .kits)) (filling (said (decode s)) T)
+    plan (sheetRefusals s (slotCount (T .register)) (size (T .nodes)))
+    (length (withoutEmpty (said (decode s)) .kits))
+    (filling (withoutEmpty (said (decode s))) T)
 
 -- of a sheet and the tables before: the answer, and the tables after
 abbrev pub ReadPromise : List ℕ → Tables → Answer → Tables → Type 0
@@ -39,6 +43,10 @@ kitsRead w s at (suc m) = kitIn w (recordAt w s at) ∷ kitsRead w s (at + recor
 unfoldable pub endRead : ℕ → List ℕ → ℕ → ℕ → ℕ
 endRead w s at zero = at
 endRead w s at (suc m) = endRead w s (at + recordSize w (drop at s)) m
+
+-- whether there is a first of m such kits, and it is empty
+abbrev pub emptyFirst : ℕ → List ℕ → ℕ → ℕ → Bool
+emptyFirst w s at m = ltb 0 m && isZero (length (units (listAt w s at)))
 
 -- a number stands in the sheet s at a place, and a register has a slot k
 pub record NumberStands (s : List ℕ) (at k : ℕ) (R : List ℕ) : Type 0 where

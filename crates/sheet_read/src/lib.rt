@@ -2,20 +2,23 @@
 // node table are written.
 ghost use mathlib.Core.Path.{_≡_};
 ghost use mathlib.Core.Bool.{true};
-ghost use Prim.Native.Nat.{_+_, _*_};
+ghost use Prim.Native.Nat.{_+_, _*_, _<_, _≤_};
+ghost use lib.ListN.{length};
 ghost use Rattle.ground.specs.Laid.{laid, zeroed};
 ghost use Rattle.repeats.specs.Inner.{numberHere, nextPlace};
+ghost use Rattle.kits.specs.Kits.{mostUnits, units};
 ghost use Rattle.register.specs.Register.{slotBytes, slotCount, registerLength, registerOf};
 ghost use Rattle.nodes.specs.Nodes.{nodesLength};
+ghost use Rattle.nodes.specs.Held.{withUnits};
 ghost use Rattle.index_insert.specs.Enter.{enterAll};
 ghost use Rattle.sheet.specs.Sheet.{placeBytes, numberItem};
 ghost use Rattle.sheet.specs.Bytes.{twoBytes};
-ghost use Rattle.sheet.specs.Inner.{headBytes, numbersAt, endAt};
+ghost use Rattle.sheet.specs.Inner.{Width, headBytes, numbersAt, endAt, listAt, WholeAt};
 ghost use Rattle.sheet.specs.Reading.{decode};
 ghost use Rattle.sheet_judge.specs.Inner.{judgedOf};
 ghost use Rattle.sheet_judge.specs.declared.Judged.the-variants.{Good};
 ghost use Rattle.ground.specs.Tables.{tables};
-ghost use Rattle.sheet_read.specs.Inner.{ReadPromise, kitsRead, NumberStands, NumbersStand, KitsStand};
+ghost use Rattle.sheet_read.specs.Inner.{ReadPromise, kitsRead, emptyFirst, NumberStands, NumbersStand, KitsStand};
 use answers::Answer;
 use ground::clear;
 use ground::copy_in;
@@ -82,15 +85,45 @@ fn fill_nodes(nodes: &mut [u16], s: &[u8], w: usize, from: usize, m: usize)
     }
 }
 
-// Empties both tables and fills them with n parts and m kits of a sheet.
-pub fn fill(reg: &mut [u8], nodes: &mut [u16], s: &[u8], n: usize, m: usize)
+// Whether the first of m kits whose records, in which places take w bytes, stand from a place on is empty. No other can be: an empty kit comes
+// first in listing order.
+fn first_empty(s: &[u8], w: usize, at: usize, m: usize) -> bool
+    requires { ⌜ Width w ⌝ ∗ ⌜ (0 < m → WholeAt w (now s) at × (length (units (listAt w (now s) at)) ≤ mostUnits)) ⌝ }
+    ensures { λ r. ⌜ r ≡ emptyFirst w (now (s .entry)) at m ⌝ }
+{
+    if m == 0 {
+        return false;
+    }
+    let row = row_in(s, at, w);
+    row.len == 0
+}
+
+// Empties the node table and enters those of m kits that have a unit, as `fill_nodes` does: how many.
+fn fill_kits(nodes: &mut [u16], s: &[u8], w: usize, at: usize, m: usize) -> usize
+    requires { ⌜ KitsStand w (now s) at m (now nodes) ⌝ }
+    ensures { λ r. ⌜ r ≡ length (withUnits (kitsRead w (now (s .entry)) at m)) ⌝ ∗
+        ⌜ now (nodes .exit) ≡ enterAll (zeroed (now (nodes .entry))) (withUnits (kitsRead w (now (s .entry)) at m)) ⌝ }
+{
+    if first_empty(s, w, at, m) {
+        let next = record_end(s, at, w);
+        let rest = m - 1;
+        fill_nodes(nodes, s, w, next, rest);
+        return rest;
+    }
+    fill_nodes(nodes, s, w, at, m);
+    m
+}
+
+// Empties both tables and fills them with the n parts of a sheet and those of its m kits that have a unit: how many kits.
+pub fn fill(reg: &mut [u8], nodes: &mut [u16], s: &[u8], n: usize, m: usize) -> usize
     requires { ⌜ NumbersStand (now s) n (now reg) ⌝ ∗ ⌜ KitsStand (placeBytes n) (now s) (endAt (now s) headBytes n + twoBytes) m (now nodes) ⌝ }
-    ensures { λ _. ⌜ (now (reg .exit) ≡ registerOf (slotCount (now (reg .entry))) (numbersAt (now (s .entry)) headBytes n)) ×
+    ensures { λ r. ⌜ (now (reg .exit) ≡ registerOf (slotCount (now (reg .entry))) (numbersAt (now (s .entry)) headBytes n)) ×
+        (r ≡ length (withUnits (kitsRead (placeBytes n) (now (s .entry)) (endAt (now (s .entry)) headBytes n + twoBytes) m))) ×
         (now (nodes .exit) ≡ enterAll (zeroed (now (nodes .entry)))
-        (kitsRead (placeBytes n) (now (s .entry)) (endAt (now (s .entry)) headBytes n + twoBytes) m)) ⌝ }
+        (withUnits (kitsRead (placeBytes n) (now (s .entry)) (endAt (now (s .entry)) headBytes n + twoBytes) m))) ⌝ }
 {
     let at = fill_register(reg, s, n);
-    fill_nodes(nodes, s, place_bytes(n as u16), at + TWO_BYTES, m);
+    fill_kits(nodes, s, place_bytes(n as u16), at + TWO_BYTES, m)
 }
 
 // A faultless sheet: 12, or both tables filled.
@@ -105,9 +138,7 @@ fn take_in(reg: &mut [u8], nodes: &mut [u16], s: &[u8], sheet: Sheet, need: usiz
     if node_count(nodes) < need {
         return Answer::NoRoom(need);
     }
-    let kits = wide16(sheet.kits);
-    fill(reg, nodes, s, parts, kits);
-    Answer::Done(kits)
+    Answer::Done(fill(reg, nodes, s, parts, wide16(sheet.kits)))
 }
 
 // Reads a sheet into tables that have right lengths: kits read.

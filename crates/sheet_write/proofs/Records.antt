@@ -3,7 +3,7 @@ use mathlib.Core.Path.{_≡_, refl, ap, sym, _∙_}
 use mathlib.Core.List.{List, [], _∷_, _++_, map, append-assoc, append-nil}
 use Prim.Native.Nat.{ℕ, _+_, _-_, _*_, _/_, _≤_, _<_}
 use native.Mathlib.Omega.{arith}
-use lib.ListN.{length, length-append}
+use lib.ListN.{length}
 use borrow.Author.Tests.{eq-eqb, ne-eqb}
 use Rattle.ground.specs.Limits.{byteLimit}
 use Rattle.ground.specs.Lists.{keep, concat}
@@ -11,7 +11,7 @@ use Rattle.ground.proofs.Laws.{from-step, from-end, map-append}
 use Rattle.kits.specs.Kits.{mostUnits, mostPlace}
 use Rattle.register.specs.Register.{numberAt}
 use Rattle.nodes.specs.Nodes.{tag, child, next, tagged}
-use Rattle.nodes.specs.Inner.{Shape, Used, Live, walk, walkAll}
+use Rattle.nodes.specs.Inner.{Shape, Used, walk}
 use Rattle.nodes.specs.Held.{Kit, kitAt}
 use Rattle.nodes.proofs.Sorted.{keep-append}
 use Rattle.nodes.proofs.Walk.{walk-none, walk-some}
@@ -48,16 +48,6 @@ module _ (w : ℕ) (N : List ℕ) where
   unfolding recordsAt kitsAt recordItems keep concat tagged kitAt
   own-some i f = rw (ne-eqb (tag N i) 0 f) (append-nil (recordItem w (kitOf (nodeRow N i) (tag N i))))
 
-  pub root-first : recordsAt w N (walkAll N) ≡ ownRecord w N 0 ++ recordsFrom w N (child N 0)
-  unfolding walkAll
-  root-first = records-append (0 ∷ []) (walk N (child N 0))
-
-  pub root-parts : {k : ℕ} → k ≡ child N 0 → recordsAt w N (walkAll N) ≡ ownRecord w N 0 ++ recordsFrom w N k
-  root-parts e = rw e root-first
-
-  pub root-long : {k : ℕ} → k ≡ child N 0 → length (recordsAt w N (walkAll N)) ≡ length (ownRecord w N 0) + length (recordsFrom w N k)
-  root-long {k} e = omega (arith, ap length (root-parts e), length-append (ownRecord w N 0) (recordsFrom w N k))
-
   module _ (S : Shape mostPlace N) where
     pub from-none : recordsFrom w N 0 ≡ []
     from-none = ap (recordsAt w N) (walk-none S) ∙ records-none
@@ -82,16 +72,16 @@ unfolding numberItem
 number-size n = omega arith
 
 -- a node's own record, of the tag that was read
-module _ (N : List ℕ) (S : Shape mostPlace N) (i : ℕ) (u : Live N i) where
+module _ (N : List ℕ) (S : Shape mostPlace N) (i : ℕ) (u : Used N i) where
   pub row-few : endOf (nodeRow N i) .at ≤ mostUnits
-  row-few = omega (arith, end-few (nodeRow N i) .0, row-good S i u .short)
+  row-few = omega (arith, end-few (nodeRow N i) .0, row-good S i (λ _. u) .short)
 
   module _ {w : ℕ} (h : Width w) where
     pub own-record : (t : ℕ) → t ≡ tag N i → (t ≡ 0 → ⊥) → recordBytes w t (rowLines w N i) ≡ ownRecord w N i
-    own-record t e f = rw e (record-bytes w (nodeRow N i) (tag N i) (row-good S i u) h ∙ sym (own-some w N i (λ z. f (e ∙ z))))
+    own-record t e f = rw e (record-bytes w (nodeRow N i) (tag N i) (row-good S i (λ _. u)) h ∙ sym (own-some w N i (λ z. f (e ∙ z))))
 
     pub row-long : length (rowLines w N i) ≡ endOf (nodeRow N i) .at * lineBytes w
-    row-long = lines-long w (nodeRow N i) (row-good S i u)
+    row-long = lines-long w (nodeRow N i) (row-good S i (λ _. u))
 
     -- whose lines are as many as its row has
     pub row-count : {ls : List ℕ} → ls ≡ rowLines w N i → length ls / lineBytes w < byteLimit

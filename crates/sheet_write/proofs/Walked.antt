@@ -6,13 +6,13 @@ use native.Mathlib.Nat.{mul-le-mul-right}
 use native.Mathlib.Omega.{arith}
 use lib.ListN.{length, take, drop, length-append}
 use Rattle.ground.specs.Laid.{laid}
-use Rattle.kits.specs.Kits.{mostPlace, mostUnits, listOf}
+use Rattle.kits.specs.Kits.{mostPlace, mostUnits}
 use Rattle.kits.specs.Inner.{GoodRow}
 use Rattle.nodes.specs.Nodes.{parent, child, next, label, size}
-use Rattle.nodes.specs.Inner.{Used, Live, Shape, rank}
+use Rattle.nodes.specs.Inner.{Used, Shape, rank}
 use Rattle.nodes.proofs.Rows.{climb, row-root, row-step, row-good}
 use Rattle.nodes.proofs.Walk.{root-inside, root-child, child-live, child-less, next-less}
-use Rattle.sheet.specs.Sheet.{lineBytes, lineItems}
+use Rattle.sheet.specs.Sheet.{lineBytes}
 use Rattle.sheet.specs.Inner.{Width}
 use Rattle.sheet_write.specs.declared.EndLine.{EndLine}
 use Rattle.sheet_write.specs.Inner.{nodeRow, ownRecord, recordsFrom, noLine, endItem, withUnit, carryAll, endFrom, endOf, rowBytes, rowLines}
@@ -153,17 +153,10 @@ along-next A n e = record { reached = to-next (A .reached) n e; later = omega (a
 
 -- The root
 module _ {N : List ℕ} (S : Shape mostPlace N) where
-  pub root-row : nodeRow N 0 ≡ []
+  root-row : nodeRow N 0 ≡ []
   root-row = row-root (climb S)
 
-  pub root-live : Live N 0
-  root-live h = absurd (omega arith)
-
-  pub root-lines : (w : ℕ) → rowLines w N 0 ≡ []
-  unfolding listOf lineItems
-  root-lines w = ap (λ (r : List ℕ). lineItems w (listOf r)) root-row
-
-  pub root-end : {e : EndLine} → e ≡ noLine → e ≡ endOf (nodeRow N 0)
+  root-end : {e : EndLine} → e ≡ noLine → e ≡ endOf (nodeRow N 0)
   unfolding endFrom
   root-end e = e ∙ ap endOf (sym root-row)
 

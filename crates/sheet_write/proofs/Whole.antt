@@ -1,11 +1,13 @@
 -- The sheet of two sound tables: its items one behind the other, how many bytes they take, and what the writer's answers promise.
 use mathlib.Core.Path.{_≡_, refl, ap, sym, _∙_}
 use mathlib.Core.Logic.{⊎-elim, _≢_}
-use mathlib.Core.Bool.{Bool, true, false, cond}
+use mathlib.Core.Bool.{Bool, true, false, not, cond}
 use mathlib.Core.List.{List, [], _∷_, _++_, append-assoc}
 use Prim.Native.Nat.{ℕ, suc, _+_, _*_, _≤_, _<_}
 use native.Mathlib.Omega.{arith}
 use lib.ListN.{length, length-append}
+use lib.Dec.{eqb}
+use mir.Val.{boolByte}
 use Rattle.ground.specs.Laid.{Put}
 use Rattle.ground.specs.Lists.{from}
 use Rattle.ground.specs.Calls.{done, refused, Promise}
@@ -15,11 +17,12 @@ use Rattle.kits.specs.Kits.{before, mostPlace}
 use Rattle.register.specs.Register.{partsOf}
 use Rattle.register.specs.Inner.{Ready}
 use Rattle.register.proofs.Sound.{ready-holds, holds-parts}
-use Rattle.nodes.specs.Nodes.{tag, child, next, size, nodesOf, mostNodes, isUsed, usedNodes}
-use Rattle.nodes.specs.Inner.{Shape, Live, walk, walkAll}
-use Rattle.nodes.specs.Held.{Kit, putKit, inOrder, held}
+use Rattle.nodes.specs.Nodes.{tag, tally, child, next, size, nodesOf, mostNodes, isUsed, usedNodes, tagged}
+use Rattle.nodes.specs.Inner.{Shape, Sound, Used, Live, walk, walkAll}
+use Rattle.nodes.specs.Held.{Kit, putKit, inOrder, listed}
 use Rattle.nodes.proofs.Beginnings.{used-walk}
-use Rattle.nodes.proofs.Held.{held-is-walk}
+use Rattle.nodes.proofs.Tallies.{one-if}
+use Rattle.nodes.proofs.Units.{listed-is-walk, root-lists}
 use Rattle.nodes.proofs.Lists.{same-or}
 use Rattle.nodes.proofs.Sorted.{keep-short}
 use Rattle.nodes.proofs.Walk.{ind, walk-some, root-child}
@@ -28,8 +31,8 @@ use Rattle.sheet.specs.Sheet.{Contents, contentsOf, mark, version, placeBytes, 
 use Rattle.sheet.specs.Inner.{Width, mostRecord}
 use Rattle.sheet.specs.Calls.{writingOf}
 use Rattle.sheet.proofs.Numbers.{two-length}
-use Rattle.sheet_write.specs.Inner.{headItems, numbersFrom, kitsAt, recordsAt, ownRecord, recordsFrom}
-use Rattle.sheet_write.proofs.Records.{own-none, own-length, row-most, root-first, from-none, from-some}
+use Rattle.sheet_write.specs.Inner.{headItems, numbersFrom, kitsAt, recordsAt, ownRecord, recordsFrom, allRecords}
+use Rattle.sheet_write.proofs.Records.{own-none, own-length, row-most, from-none, from-some}
 
 -- putting kits in order does not change their number
 put-more : (k : Kit) (ks : List Kit) → length (putKit k ks) ≡ 1 + length ks
@@ -47,13 +50,13 @@ order-many [] = refl
 order-many (k ∷ ks) = put-more k (inOrder ks) ∙ (omega (arith, order-many ks))
 
 module _ (w : ℕ) (N : List ℕ) where
-  pub held-records : Shape mostPlace N → recordItems w (held N) ≡ recordsAt w N (walkAll N)
+  listed-records : Shape mostPlace N → recordItems w (listed N) ≡ allRecords w N
   unfolding recordsAt kitsAt
-  held-records S = ap (recordItems w) (held-is-walk S)
+  listed-records S = ap (recordItems w) (listed-is-walk S)
 
 -- no record takes more than 195 bytes, and there are no more than nodes
 module _ {w : ℕ} (width : Width w) (N : List ℕ) (S : Shape mostPlace N) where
-  own-most : (i : ℕ) → Live N i → length (ownRecord w N i) ≤ mostRecord
+  own-most : (i : ℕ) → Used N i → length (ownRecord w N i) ≤ mostRecord
   own-most i u = ⊎-elim
       (λ (e : tag N i ≡ 0). omega (arith, ap length (own-none w N i e)))
       (λ (f : tag N i ≢ 0). omega (arith, own-length N S i u width (tag N i) refl f, row-most N S i u width))
@@ -67,7 +70,7 @@ module _ {w : ℕ} (width : Width w) (N : List ℕ) (S : Shape mostPlace N) wher
         arith,
         h,
         k,
-        own-most i (λ _. u),
+        own-most i u,
         ap length (from-some w N S i u),
         length-append (ownRecord w N i) (recordsFrom w N (child N i) ++ recordsFrom w N (next N i)),
         length-append (recordsFrom w N (child N i)) (recordsFrom w N (next N i)),
@@ -79,16 +82,8 @@ module _ {w : ℕ} (width : Width w) (N : List ℕ) (S : Shape mostPlace N) wher
   unfolding walkAll usedNodes nodesOf
   walk-few = omega (arith, used-walk S, keep-short (isUsed N) (from 0 (size N)), length-from 0 (size N), S .sized .most)
 
-  pub records-most : length (recordsAt w N (walkAll N)) ≤ mostRecord * mostNodes
-  records-most =
-      omega (
-        arith,
-        ap length (root-first w N),
-        length-append (ownRecord w N 0) (recordsFrom w N (child N 0)),
-        own-most 0 (λ h. absurd (omega arith)),
-        walk-most (child N 0) (root-child S),
-        walk-few,
-      )
+  pub records-most : length (allRecords w N) ≤ mostRecord * mostNodes
+  records-most = omega (arith, walk-most (child N 0) (root-child S), walk-few)
 
 module _ (R : List ℕ) (ready : Ready R) where
   pub parts-numbers : numberItems (partsOf R) ≡ numbersFrom R 0 (length (partsOf R))
@@ -96,28 +91,28 @@ module _ (R : List ℕ) (ready : Ready R) where
   parts-numbers = ap numberItems (holds-parts R (length (partsOf R)) (ready-holds R ready))
 
 -- the items of the sheet
-module _ (R N : List ℕ) (ready : Ready R) (n m : ℕ) (parts : n ≡ length (partsOf R)) (kits : m ≡ length (held N)) where
+module _ (R N : List ℕ) (ready : Ready R) (n m : ℕ) (parts : n ≡ length (partsOf R)) (kits : m ≡ length (listed N)) where
   pub sheet-items : Shape mostPlace N →
-      encode (contentsOf R N) ≡ headItems n ++ (numbersFrom R 0 n ++ (two m ++ recordsAt (placeBytes n) N (walkAll N)))
+      encode (contentsOf R N) ≡ headItems n ++ (numbersFrom R 0 n ++ (two m ++ allRecords (placeBytes n) N))
   unfolding encode encodeAs headItems
   sheet-items S =
       let p = length (partsOf R) in
       let e = parts-numbers R ready in
-      let f = held-records (placeBytes p) N S in
+      let f = listed-records (placeBytes p) N S in
       let A = numbersFrom R 0 p in
-      let B = two (length (held N)) ++ recordsAt (placeBytes p) N (walkAll N) in
+      let B = two (length (listed N)) ++ allRecords (placeBytes p) N in
       rw (parts, kits, e, f) (ap (λ (x : List ℕ). mark ++ x) (sym (append-assoc (two (version p)) (two p) (A ++ B))))
 
   pub sheet-size : Shape mostPlace N →
-      length (encode (contentsOf R N)) ≡ 7 + length (numbersFrom R 0 n) + 2 + length (recordsAt (placeBytes n) N (walkAll N))
+      length (encode (contentsOf R N)) ≡ 7 + length (numbersFrom R 0 n) + 2 + length (allRecords (placeBytes n) N)
   unfolding encode encodeAs
   sheet-size S =
       let P = numberItems (partsOf R) in
-      let k = length (held N) in
+      let k = length (listed N) in
       let p = length (partsOf R) in
-      let K = recordItems (placeBytes p) (held N) in
+      let K = recordItems (placeBytes p) (listed N) in
       let e : length P ≡ length (numbersFrom R 0 n) = rw parts (ap length (parts-numbers R ready)) in
-      let f : length K ≡ length (recordsAt (placeBytes n) N (walkAll N)) = rw parts (ap length (held-records (placeBytes p) N S)) in
+      let f : length K ≡ length (allRecords (placeBytes n) N) = rw parts (ap length (listed-records (placeBytes p) N S)) in
       omega (
         arith,
         e,

@@ -9,10 +9,10 @@ use lib.ListN.{length, take}
 use Rattle.ground.specs.Lists.{keep, from}
 use Rattle.register.specs.Register.{numberAt, partsOf}
 use Rattle.kits.specs.Kits.{mostPlace, listOf}
-use Rattle.nodes.specs.Nodes.{tagged, parent}
+use Rattle.nodes.specs.Nodes.{tagged, parent, child}
 use Rattle.nodes.specs.Nodes as table
 use Rattle.nodes.specs.Inner.{Shape, Used, Live, walk}
-use Rattle.nodes.specs.Held.{Kit, kitAt, held}
+use Rattle.nodes.specs.Held.{Kit, kitAt, listed}
 use Rattle.sheet.specs.Bytes.{inBytes, two}
 use Rattle.sheet.specs.Sheet.{lineBytes, mark, version, numberItems, lineItems, recordItems}
 use Rattle.sheet.specs.declared.Sheet.{Sheet}
@@ -45,10 +45,14 @@ ownRecord w N i = recordsAt w N (i ∷ [])
 abbrev pub recordsFrom : ℕ → List ℕ → ℕ → List ℕ
 recordsFrom w N i = recordsAt w N (walk N i)
 
+-- the records of all kits with a unit: those below the root
+abbrev pub allRecords : ℕ → List ℕ → List ℕ
+allRecords w N = recordsFrom w N (child N 0)
+
 -- a sheet's counts are those of a register and a node table
 pub record Counted (R N : List ℕ) (s : Sheet) : Type 0 where
   pub parts : s .parts ≡ length (partsOf R)
-  pub kits : s .kits ≡ length (held N)
+  pub kits : s .kits ≡ length (listed N)
 
 ------------------------------------------------------------------------
 -- Lines of a row, unit by unit

@@ -12,12 +12,13 @@ ghost use Rattle.register.specs.Register.{slotBytes, slotCount, numberAt};
 ghost use Rattle.register.specs.Number.{longestNumber};
 ghost use Rattle.register.specs.Inner.{Ready, Short};
 ghost use Rattle.nodes.specs.Nodes.{parent, mostNodes};
-ghost use Rattle.nodes.specs.Inner.{walkAll, Live, Shape, Sound};
+ghost use Rattle.nodes.specs.Inner.{Used, Shape, Sound};
+ghost use Rattle.nodes.specs.Held.{listed};
 ghost use Rattle.sheet.specs.Sheet.{lineBytes, contentsOf, encode};
 ghost use Rattle.sheet.specs.Calls.{writingOf};
 ghost use Rattle.sheet.specs.Inner.{Width, mostItem, mostRecord};
-ghost use Rattle.sheet_write.specs.Inner.{nodeRow, headItems, numbersFrom, Counted, recordsAt, ownRecord, recordsFrom};
-ghost use Rattle.sheet_write.specs.Inner.{noLine, endItem, withUnit, endOf, rowBytes, rowLines, Stands, EndsIn, Kept, endLine, Reached, StandsAbove};
+ghost use Rattle.sheet_write.specs.Inner.{nodeRow, headItems, numbersFrom, Counted, ownRecord, recordsFrom, allRecords};
+ghost use Rattle.sheet_write.specs.Inner.{noLine, endItem, withUnit, endOf, rowLines, Stands, EndsIn, Kept, endLine, Reached, StandsAbove};
 use answers::Answer;
 use ground::copy_in;
 use ground::wide8;
@@ -25,9 +26,9 @@ use ground::wide16;
 use kits::MOST_UNITS;
 use nodes::child_at;
 use nodes::label_at;
+use nodes::listed_count;
 use nodes::next_at;
 use nodes::tag_at;
-use nodes::tally_at;
 use register::SLOT_BYTES;
 use register::count_parts;
 use repeats::LENGTH_BYTES;
@@ -106,7 +107,7 @@ fn set_line(lines: &mut [u8], line: EndLine, w: usize)
 
 // The record of a node's own kit, where one ends there, from a place of the output on; `lines` are those of its row.
 fn put_own(out: &mut [u8], at: usize, nodes: &[u16], i: usize, lines: &[u8], w: usize) -> usize
-    requires { ⌜ Shape mostPlace (now nodes) ⌝ ∗ ⌜ Live (now nodes) i ⌝ ∗ ⌜ now lines ≡ rowLines w (now nodes) i ⌝ ∗ ⌜ Width w ⌝ ∗
+    requires { ⌜ Shape mostPlace (now nodes) ⌝ ∗ ⌜ Used (now nodes) i ⌝ ∗ ⌜ now lines ≡ rowLines w (now nodes) i ⌝ ∗ ⌜ Width w ⌝ ∗
         ⌜ at + length (ownRecord w (now nodes) i) ≤ length (now out) ⌝ }
     ensures { λ r. ⌜ Put (now (out .entry)) at (ownRecord w (now (nodes .entry)) i) r (now (out .exit)) ⌝ }
 {
@@ -216,7 +217,7 @@ fn numbers_size(reg: &[u8], n: usize) -> usize
 
 // How many bytes a node's own record takes: with the root's line, all lines but the last take as many as without it all do.
 fn own_size(nodes: &[u16], i: usize, end: EndLine, w: usize) -> usize
-    requires { ⌜ Shape mostPlace (now nodes) ⌝ ∗ ⌜ Live (now nodes) i ⌝ ∗ ⌜ end ≡ endOf (nodeRow (now nodes) i) ⌝ ∗ ⌜ Width w ⌝ }
+    requires { ⌜ Shape mostPlace (now nodes) ⌝ ∗ ⌜ Used (now nodes) i ⌝ ∗ ⌜ end ≡ endOf (nodeRow (now nodes) i) ⌝ ∗ ⌜ Width w ⌝ }
     ensures { λ r. ⌜ r ≡ length (ownRecord w (now (nodes .entry)) i) ⌝ }
 {
     if tag_at(nodes, i) == 0 {
@@ -250,19 +251,17 @@ fn kits_size(nodes: &[u16], link: usize, line: usize, place: u16, quantity: u16,
 // How many bytes all kit records take.
 fn records_size(nodes: &[u16], w: usize) -> usize
     requires { ⌜ Shape mostPlace (now nodes) ⌝ ∗ ⌜ Width w ⌝ }
-    ensures { λ r. ⌜ r ≡ length (recordsAt w (now (nodes .entry)) (walkAll (now (nodes .entry)))) ⌝ ∗ ⌜ r ≤ mostRecord * mostNodes ⌝ }
+    ensures { λ r. ⌜ r ≡ length (allRecords w (now (nodes .entry))) ⌝ ∗ ⌜ r ≤ mostRecord * mostNodes ⌝ }
 {
     let none = EndLine::none();
-    let own = own_size(nodes, 0, none, w);
-    own
-        + kits_size(
-            nodes,
-            child_at(nodes, 0),
-            none.at,
-            none.place,
-            none.quantity,
-            w,
-        )
+    kits_size(
+        nodes,
+        child_at(nodes, 0),
+        none.at,
+        none.place,
+        none.quantity,
+        w,
+    )
 }
 
 // The mark, the version and the part count.
@@ -276,35 +275,24 @@ fn put_head(out: &mut [u8], parts: u16) -> usize
     at + put_two(&mut out[at..], parts)
 }
 
-// All kit records: the root's own, of a row without lines, and those of all that is below it.
-fn put_from_root(out: &mut [u8], nodes: &[u16], lines: &mut [u8], w: usize) -> usize
-    requires { ⌜ Shape mostPlace (now nodes) ⌝ ∗ ⌜ Width w ⌝ ∗ ⌜ length (now lines) ≡ rowBytes ⌝ ∗
-        ⌜ length (recordsAt w (now nodes) (walkAll (now nodes))) ≤ length (now out) ⌝ }
-    ensures { λ r. ⌜ Put (now (out .entry)) 0 (recordsAt w (now (nodes .entry)) (walkAll (now (nodes .entry)))) r (now (out .exit)) ⌝ }
+// All kit records, with room for the lines of a row: those of all that is below the root, whose own kit has no unit.
+fn put_records(out: &mut [u8], nodes: &[u16], w: usize) -> usize
+    requires { ⌜ Shape mostPlace (now nodes) ⌝ ∗ ⌜ Width w ⌝ ∗ ⌜ length (allRecords w (now nodes)) ≤ length (now out) ⌝ }
+    ensures { λ r. ⌜ Put (now (out .entry)) 0 (allRecords w (now (nodes .entry))) r (now (out .exit)) ⌝ }
 {
-    let own = put_own(out, 0, nodes, 0, &lines[0..0], w);
-    let c = child_at(nodes, 0);
+    let mut lines = [0; ROW_BYTES];
     let none = EndLine::none();
     put_kits(
         out,
-        own,
+        0,
         nodes,
-        c,
-        lines,
+        child_at(nodes, 0),
+        &mut lines,
         none.at,
         none.place,
         none.quantity,
         w,
     )
-}
-
-// All kit records, with room for the lines of a row.
-fn put_records(out: &mut [u8], nodes: &[u16], w: usize) -> usize
-    requires { ⌜ Shape mostPlace (now nodes) ⌝ ∗ ⌜ Width w ⌝ ∗ ⌜ length (recordsAt w (now nodes) (walkAll (now nodes))) ≤ length (now out) ⌝ }
-    ensures { λ r. ⌜ Put (now (out .entry)) 0 (recordsAt w (now (nodes .entry)) (walkAll (now (nodes .entry)))) r (now (out .exit)) ⌝ }
-{
-    let mut lines = [0; ROW_BYTES];
-    put_from_root(out, nodes, &mut lines, w)
 }
 
 // All items of a sheet, one behind the other.
@@ -332,6 +320,6 @@ pub fn write_sheet(reg: &[u8], nodes: &[u16], out: &mut [u8]) -> Answer
     if out.len() < need {
         return Answer::NoRoom(need);
     }
-    let sheet = Sheet::new(parts as u16, tally_at(nodes, 0));
+    let sheet = Sheet::new(parts as u16, listed_count(nodes));
     Answer::Done(put_items(out, reg, nodes, sheet))
 }

@@ -1,4 +1,4 @@
--- What the walk finds are the kits held whose shortfall is at most d, with their shortfalls; and what is promised of both outputs.
+-- What the walk finds are the kits listed whose shortfall is at most d, with their shortfalls; and what is promised of both outputs.
 use mathlib.Core.Path.{_≡_, refl, sym, ap, _∙_}
 use mathlib.Core.Bool.{true}
 use mathlib.Core.List.{List, [], _∷_, map, List·Memᴰ}
@@ -16,9 +16,9 @@ use Rattle.kits.proofs.Inclusion.{rises-none}
 use Rattle.kits.proofs.Units.{units-rise, row-rises, row-upto}
 use Rattle.nodes.specs.Nodes.{tag, rowOf}
 use Rattle.nodes.specs.Inner.{Shape}
-use Rattle.nodes.specs.Held.{Kit, tagsOf, kitAt, held}
+use Rattle.nodes.specs.Held.{Kit, tagsOf, kitAt, listed}
 use Rattle.nodes.proofs.Sorted.{map-same}
-use Rattle.nodes.proofs.Held.{held-good}
+use Rattle.nodes.proofs.Units.{listed-good}
 use Rattle.questions.specs.Questions.{fitting, allOf}
 use Rattle.questions.specs.Inner.{foundIn}
 use Rattle.questions.proofs.Found.{kits-found, tags-at}
@@ -41,10 +41,10 @@ none-at-zero l g = quantities-count l g 0 ∙ rises-none (units-rise (good-lines
 
 -- For a good list with the quantities Q by place
 module _ (d : ℕ) {N Q : List ℕ} (l : List ℕ) (S : Shape mostPlace N) (g : goodList mostPlace l ≡ true) (e : Q ≡ quantities l) where
-  kit-short : (k : Kit) → List·Memᴰ k (held N) → shortOf (units l) k ≡ shortIn Q (k .row)
+  kit-short : (k : Kit) → List·Memᴰ k (listed N) → shortOf (units l) k ≡ shortIn Q (k .row)
   unfolding shortOf
   kit-short k m =
-      rw e (let G = held-good S k m in sym
+      rw e (let G = listed-good S k m in sym
       (short-along (quantities l) (units l) (quantities-count l g) (k .row) (none-at-zero l g) (row-rises G) (row-upto G)))
 
   kits-are : fitting (isAlmost d) l N ≡ map (kitAt N) (foundIn (almost Q d) N)

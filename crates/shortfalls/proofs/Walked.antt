@@ -9,15 +9,15 @@ use borrow.Author.Tests.{le-leb, lt-leb}
 use Rattle.ground.specs.Lists.{keep}
 use Rattle.ground.proofs.Put.{put-length}
 use Rattle.kits.specs.Kits.{mostPlace}
-use Rattle.nodes.specs.Nodes.{mostNodes, parent, child, next, label, tag, size, rowOf}
+use Rattle.nodes.specs.Nodes.{parent, child, next, label, tag, size, rowOf}
 use Rattle.nodes.specs.Inner.{Used, Shape, rank}
 use Rattle.nodes.proofs.Rows.{climb, row-root, row-step}
 use Rattle.nodes.proofs.Walk.{root-inside, root-child, child-live, child-less, next-less}
-use Rattle.questions.specs.Inner.{answers, foundFrom, foundIn, ifTag, someTag}
-use Rattle.questions.proofs.Found.{own-word, found-none, found-step, found-root, found-few, found-past}
+use Rattle.questions.specs.Inner.{answers, foundFrom, ifTag, someTag}
+use Rattle.questions.proofs.Found.{own-word, found-none, found-step, found-past}
 use Rattle.shortfalls.specs.declared.Passed.{Passed}
 use Rattle.shortfalls.specs.Shortfalls.{mostShort}
-use Rattle.shortfalls.specs.Inner.{nonePassed, after, along, shortIn, almost, shortAt, PutBoth, PutNodes, PutFrom, AtLink}
+use Rattle.shortfalls.specs.Inner.{nonePassed, after, along, shortIn, almost, shortAt, PutBoth, PutFrom, PutIn, AtLink}
 use Rattle.shortfalls.proofs.Along.{along-append, along-next, along-least}
 use Rattle.shortfalls.proofs.Written.{both-same, nodes-on, nodes-same, nodes-none, nodes-down}
 
@@ -184,57 +184,18 @@ module _ {N Q o z o₁ z₁ : List ℕ} {d link n at k : ℕ} {p : Passed} (C : 
       whole = λ w. C .whole (set-down v h e m-is f x y w);
     }
 
--- The root: the empty row has no shortfall
-module _ {N : List ℕ} (Q : List ℕ) (d : ℕ) (S : Shape mostPlace N) (h : d ≤ mostShort) where
-  pub root-link : {k : ℕ} → k ≡ child N 0 → AtLink N Q d k nonePassed
-  unfolding along
-  root-link e = rw e (record {
-    shape = S;
-    live = root-child S;
-    most = h;
-    few = omega arith;
-    passed = λ g. ap (along Q nonePassed) (sym (ap (rowOf N) (S .head 0 (root-inside S) .back g) ∙ row-root (climb S)));
-  })
+-- where it begins: no label is passed
+pub root-link : {N : List ℕ} (Q : List ℕ) (d : ℕ) {k : ℕ} → Shape mostPlace N → d ≤ mostShort → k ≡ child N 0 → AtLink N Q d k nonePassed
+unfolding along
+root-link {N} Q d S h e = rw e (record {
+  shape = S;
+  live = root-child S;
+  most = h;
+  few = omega arith;
+  passed = λ g. ap (along Q nonePassed) (sym (ap (rowOf N) (S .head 0 (root-inside S) .back g) ∙ row-root (climb S)));
+})
 
-  root-passes : almost Q d (rowOf N 0) ≡ true
-  unfolding along
-  root-passes = ap (almost Q d) (row-root (climb S)) ∙ almost-yes Q d [] (omega arith)
-
-  root-own : (f : ℕ → ℕ) → map f (keep (answers (almost Q d) N) (0 ∷ [])) ≡ ifTag (tag N 0) (f 0)
-  root-own f = own-word S (almost Q d) f 0 ∙ ap (λ b. ifTag (cond b (tag N 0) 0) (f 0)) root-passes
-
-  root-short : shortAt Q N 0 ≡ 0
-  unfolding shortAt shortIn along
-  root-short = ap (λ r. along Q nonePassed r .short) (row-root (climb S))
-
-  module _ {k u : ℕ} (k-is : k ≡ child N 0) (u-is : u ≡ tag N 0) where
-    root-parts : foundIn (almost Q d) N ≡ keep (answers (almost Q d) N) (0 ∷ []) ++ foundFrom (almost Q d) N k
-    root-parts = rw k-is (found-root S (almost Q d))
-
-    root-tag : map (tag N) (keep (answers (almost Q d) N) (0 ∷ [])) ≡ someTag u
-    root-tag = root-own (tag N) ∙ ap someTag (sym u-is)
-
-    root-word : map (shortAt Q N) (keep (answers (almost Q d) N) (0 ∷ [])) ≡ ifTag u 0
-    root-word = root-own (shortAt Q N) ∙ ap₂ ifTag (sym u-is) root-short
-
-    pub root-room : length (someTag u) + length (foundFrom (almost Q d) N k) ≤ mostNodes
-    root-room =
-        let own = keep (answers (almost Q d) N) (0 ∷ []) in
-        omega (
-          arith,
-          ap length root-parts,
-          length-append own (foundFrom (almost Q d) N k),
-          ap length root-tag,
-          length-map own (tag N),
-          found-few S (almost Q d),
-          S .sized .most,
-        )
-
-    pub root-set : {o o₁ o₂ z z₁ z₂ : List ℕ} {a r : ℕ} →
-        PutBoth o z 0 (someTag u) (ifTag u 0) a o₁ z₁ →
-        PutNodes Q N o₁ z₁ a (foundFrom (almost Q d) N k) r o₂ z₂ →
-        PutNodes Q N o z 0 (foundIn (almost Q d) N) r o₂ z₂
-    root-set x y =
-        nodes-same (tag N) (shortAt Q N) root-parts
-        (nodes-on (tag N) (shortAt Q N) (keep (answers (almost Q d) N) (0 ∷ [])) (foundFrom (almost Q d) N k)
-        (both-same root-tag root-word x) y)
+-- what is set down from the root's first child on is all
+pub root-set : (Q : List ℕ) (d : ℕ) (N : List ℕ) {k r : ℕ} {o o′ z z′ : List ℕ} → k ≡ child N 0 → PutFrom Q d N k o z 0 r o′ z′ →
+    PutIn Q d N o z r o′ z′
+root-set Q d N e w = nodes-same (tag N) (shortAt Q N) (ap (foundFrom (almost Q d) N) (sym e)) w

@@ -1,4 +1,4 @@
--- Request 1, "kits that a bin almost fills": over the kits held and their quantities alone.
+-- Request 1, "kits that a bin almost fills": over the kits listed and their quantities alone.
 use mathlib.Core.Path.{_≡_}
 use mathlib.Core.Bool.{Bool}
 use mathlib.Core.List.{List, [], _∷_, map, List·Memᴰ}

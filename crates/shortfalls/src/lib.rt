@@ -123,13 +123,12 @@ fn set_almost(
     requires { ⌜ (Shape mostPlace (now nodes)) × (d ≤ mostShort) ⌝ }
     ensures { λ r. ⌜ PutIn (now (bin .entry)) d (now (nodes .entry)) (now (tags .entry)) (now (shorts .entry)) r (now (tags .exit)) (now (shorts .exit)) ⌝ }
 {
-    let n = put_both(tags, shorts, 0, tag_at(nodes, 0), 0);
     let none = Passed {
         last: 0,
         left: 0,
         short: 0,
     };
-    list_almost(nodes, bin, tags, shorts, n, d, child_at(nodes, 0), none)
+    list_almost(nodes, bin, tags, shorts, 0, d, child_at(nodes, 0), none)
 }
 
 // All kits with a shortfall of at most d: their tags in listing order, and their shortfalls in step. Where both outputs have

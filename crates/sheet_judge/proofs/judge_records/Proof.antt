@@ -17,8 +17,8 @@ use Rattle.sheet.specs.Reading.{newKit, recordSize}
 use Rattle.sheet.specs.Inner.{recordAt, listAt, WholeAt}
 use Rattle.sheet.proofs.Numbers.{bytes-drop}
 use Rattle.sheet.proofs.Places.{end-moved, lent-list}
+use Rattle.sheet.proofs.Written.{one-bad}
 use Rattle.sheet_judge.specs.Inner.{goodLines, newTag}
-use Rattle.sheet_judge.proofs.Front.{one-bad}
 use Rattle.sheet_judge.proofs.Records.{end-stays, new-is, first-bad, second-bad, latest-follows, lines-short}
 use Rattle.sheet_judge.proofs.Walk.{Judging, judging-start, judging-fault, judging-over, judging-good, judging-on}
 use borrow.Author.Needs.{needs}

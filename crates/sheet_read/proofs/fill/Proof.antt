@@ -3,9 +3,11 @@ use mathlib.Core.Path.{_≡_}
 use mathlib.Core.List.{List}
 use Prim.Native.Nat.{ℕ, _+_}
 use native.Mathlib.Omega.{arith}
+use lib.ListN.{length}
 use borrow.Author.Needs.{needs}
 use Rattle.ground.specs.Laid.{zeroed}
 use Rattle.register.proofs.Sound.{few-slots}
+use Rattle.nodes.specs.Held.{withUnits}
 use Rattle.index_insert.specs.Enter.{enterAll}
 use Rattle.sheet.specs.Bytes.{twoBytes}
 use Rattle.sheet_read.specs.Inner.{kitsRead, KitsStand}
@@ -17,9 +19,10 @@ module _ {w v at end : ℕ} (wide : w ≡ v) (ends : at ≡ end) (s : List ℕ) 
   stand-there : KitsStand v s (end + twoBytes) m N → KitsStand w s (at + twoBytes) m N
   stand-there K = rw (wide, ends) K
 
-  entered-there : {M : List ℕ} → M ≡ enterAll (zeroed N) (kitsRead w s (at + twoBytes) m) →
-      M ≡ enterAll (zeroed N) (kitsRead v s (end + twoBytes) m)
-  entered-there h = rw (wide, ends) at h
+  entered-there : {r : ℕ} {M : List ℕ} → r ≡ length (withUnits (kitsRead w s (at + twoBytes) m)) →
+      M ≡ enterAll (zeroed N) (withUnits (kitsRead w s (at + twoBytes) m)) →
+      (r ≡ length (withUnits (kitsRead v s (end + twoBytes) m))) × (M ≡ enterAll (zeroed N) (withUnits (kitsRead v s (end + twoBytes) m)))
+  entered-there e h = (rw (wide, ends) at e, rw (wide, ends) at h)
 
 fill-register-requires : tie.Need-fill-register-requires
 fill-register-requires c κs = search needs
@@ -33,11 +36,11 @@ cast-place-bytes c =
 place-bytes-requires : tie.Need-place-bytes-requires
 place-bytes-requires c κs = search needs
 
-add-fill-nodes : tie.Need-add-fill-nodes
-add-fill-nodes c = search needs
+add-fill-kits : tie.Need-add-fill-kits
+add-fill-kits c = search needs
 
-fill-nodes-requires : tie.Need-fill-nodes-requires
-fill-nodes-requires c κs =
+fill-kits-requires : tie.Need-fill-kits-requires
+fill-kits-requires c κs =
     let at-place-bytes : tie.After-place-bytes = search in
     let at-fill-register : tie.After-fill-register = search in
     let start : tie.Start = search in
@@ -52,14 +55,13 @@ same-length-2 c = search needs
 
 returns : tie.Need-returns
 returns c =
-    let at-fill-nodes : tie.After-fill-nodes = search in
+    let at-fill-kits : tie.After-fill-kits = search in
     let at-place-bytes : tie.After-place-bytes = search in
     let at-fill-register : tie.After-fill-register = search in
-    let start : tie.Start = search in (
-      at-fill-register .fill-register .ensures .1,
-      entered-there (at-place-bytes .place-bytes .ensures .0) (at-fill-register .fill-register .ensures .0) (start .args .s .now)
-          (start .args .m) (start .args .nodes .now) (at-fill-nodes .fill-nodes .ensures),
-    )
+    let start : tie.Start = search in
+    let there = entered-there (at-place-bytes .place-bytes .ensures .0) (at-fill-register .fill-register .ensures .0) (start .args .s .now)
+    (start .args .m) (start .args .nodes .now) (at-fill-kits .fill-kits .ensures .0) (at-fill-kits .fill-kits .ensures .1) in
+    (at-fill-register .fill-register .ensures .1, there .0, there .1)
 
 pub fill-spec : {M : Type 1} → statement M
 fill-spec =
@@ -68,8 +70,8 @@ fill-spec =
     fill-register-requires
     cast-place-bytes
     place-bytes-requires
-    add-fill-nodes
-    fill-nodes-requires
+    add-fill-kits
+    fill-kits-requires
     same-length
     same-length-2
     returns)

@@ -94,7 +94,7 @@ returns-3 c =
     reading-done (good start) R N (lent at-shared-slice-known) (at-wide16 .wide16 .result) (at-wide162 .wide162 .result)
     (at-wide16 .wide16 .ensures .0) (at-wide162 .wide162 .ensures .0) (omega (arith, at-count-slots .count-slots .ensures .0))
     (omega (arith, at-node-count .node-count .ensures)) (at-fill .fill .last .0) (at-fill .fill .last .1 .0)
-    (at-fill .fill .ensures .0) (at-fill .fill .ensures .1)
+    (at-fill .fill .result) (at-fill .fill .ensures .0) (at-fill .fill .ensures .1) (at-fill .fill .ensures .2)
 
 pub take-in-spec : {M : Type 1} → statement M
 take-in-spec =

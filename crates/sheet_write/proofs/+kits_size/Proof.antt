@@ -1,5 +1,5 @@
 -- So far the bytes of the nodes before this one on the chain, each with those below it, are counted; with those of the rest they are all.
-use mathlib.Core.Path.{_≡_, refl, ap, sym}
+use mathlib.Core.Path.{_≡_, refl, ap}
 use Prim.Native.Nat.{ℕ, _+_, _<_}
 use native.Mathlib.Omega.{arith}
 use lib.ListN.{length}
@@ -85,7 +85,7 @@ module _ (t : ℕ) where
       let at-with-unit : lts.After-with-unit (R t) (At t) own.Post Inv-loop μ-loop = search in
       let start : lts.Start (R t) (At t) own.Post Inv-loop μ-loop = search in
       let k = known at-with-unit in
-      (k .shape, (λ _. k .used, (k .end-is, start .pre .1 .1 .0)))
+      (k .shape, (k .used, (k .end-is, start .pre .1 .1 .0)))
 
   add-own : lts.Need-add-own (R t) (At t) own.Post Inv-loop μ-loop
   add-own c =

@@ -3,7 +3,6 @@ use mathlib.Core.Path.{_≡_, ap, sym, _∙_}
 use Prim.Native.Nat.{_+_, _*_, _≤_}
 use native.Mathlib.Omega.{arith}
 use lib.ListN.{length}
-use Rattle.nodes.proofs.Rows.{climb, live-inside}
 use Rattle.sheet.specs.Sheet.{lineBytes, linesAt}
 use Rattle.sheet.specs.Inner.{mostRecord}
 use Rattle.sheet_write.specs.declared.EndLine.{EndLine}
@@ -15,7 +14,7 @@ use Rattle.sheet_write.proofs.own_size.Tie as tie
 tag-at-requires : tie.Need-tag-at-requires
 tag-at-requires c κs =
     let start : tie.Start = search in
-    live-inside (climb (start .pre .0)) (start .args .i) (start .pre .1 .0)
+    start .pre .1 .0 .inside
 
 returns : tie.Need-returns
 returns c =

@@ -6,11 +6,10 @@ use native.Mathlib.Omega.{arith}
 use Rattle.ground.specs.Laid.{Put}
 use Rattle.ground.proofs.Put.{Rest, rest-behind, rest-lent, rest-fits, rest-inside, last-fits, last-lent, first-fits, tail-of, back, put-same, put-length}
 use Rattle.register.proofs.Sound.{ready-short}
-use Rattle.nodes.specs.Inner.{walkAll}
 use Rattle.sheet.specs.Bytes.{two}
 use Rattle.sheet.specs.Sheet.{placeBytes, encode, contentsOf}
 use Rattle.sheet.proofs.Numbers.{two-length}
-use Rattle.sheet_write.specs.Inner.{headItems, numbersFrom, recordsAt}
+use Rattle.sheet_write.specs.Inner.{headItems, numbersFrom, allRecords}
 use Rattle.sheet_write.proofs.Whole.{sheet-items}
 use borrow.Author.Needs.{needs}
 use Rattle.sheet_write.proofs.put_items.Statement.{statement}
@@ -24,7 +23,7 @@ module _ (c : tie.Start) where
   count = two (c .args .sheet .kits)
 
   abbrev records : List ℕ
-  records = recordsAt (placeBytes (c .args .sheet .parts)) (c .args .nodes .now) (walkAll (c .args .nodes .now))
+  records = allRecords (placeBytes (c .args .sheet .parts)) (c .args .nodes .now)
 
   items : encode (contentsOf (c .args .reg .now) (c .args .nodes .now)) ≡ headItems (c .args .sheet .parts) ++ (numbers ++ (count ++ records))
   items =
@@ -97,7 +96,7 @@ records-down c =
     let at-put-records : tie.After-put-records = search in
     let at-place-bytes : tie.After-place-bytes = search in
     put-same (at-put-records .put-records .ensures)
-    (ap (λ (w : ℕ). recordsAt w (start .args .nodes .now) (walkAll (start .args .nodes .now))) (at-place-bytes .place-bytes .ensures .0))
+    (ap (λ (w : ℕ). allRecords w (start .args .nodes .now)) (at-place-bytes .place-bytes .ensures .0))
 
 all : (c : tie.After-slice-known5) →
     let at-put-records : tie.After-put-records = search in

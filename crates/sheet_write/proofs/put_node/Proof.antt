@@ -79,7 +79,7 @@ put-own-requires c κs =
     let start : tie.Start = search in (
       start .pre .0 .shape,
       (
-        λ _. start .pre .0 .used,
+        start .pre .0 .used,
         (
           own-lines (start .pre .0) (start .pre .1 .0) (start .pre .1 .1 .0) (at-set-line .set-line .ensures) (at-set-line2 .set-line2 .ensures),
           (start .pre .1 .0, start .pre .1 .1 .1),

@@ -5,7 +5,6 @@ use Prim.Native.Nat.{_+_, _≤_}
 use lib.ListN.{length}
 use Rattle.ground.proofs.Laid.{room}
 use Rattle.ground.proofs.Put.{put-none, put-same, put-lent}
-use Rattle.nodes.proofs.Rows.{climb, live-inside}
 use Rattle.sheet.specs.Inner.{recordBytes}
 use Rattle.sheet_write.specs.Inner.{ownRecord}
 use Rattle.sheet_write.proofs.Records.{own-none, own-record, row-count}
@@ -35,7 +34,7 @@ fits c =
 tag-at-requires : tie.Need-tag-at-requires
 tag-at-requires c κs =
     let start : tie.Start = search in
-    live-inside (climb (start .pre .0)) (start .args .i) (start .pre .1 .0)
+    start .pre .1 .0 .inside
 
 returns : tie.Need-returns
 returns c =

@@ -5,11 +5,9 @@ use native.Mathlib.Omega.{arith}
 use lib.ListN.{length}
 use Rattle.ground.proofs.Put.{put-length}
 use Rattle.register.proofs.Sound.{ready-short}
-use Rattle.nodes.specs.Inner.{walkAll}
-use Rattle.nodes.specs.Held.{held}
-use Rattle.nodes.proofs.Tallies.{root-counts}
+use Rattle.nodes.specs.Held.{listed}
 use Rattle.sheet.specs.Sheet.{encode, contentsOf}
-use Rattle.sheet_write.specs.Inner.{recordsAt}
+use Rattle.sheet_write.specs.Inner.{allRecords}
 use Rattle.sheet_write.proofs.Whole.{sheet-size, writing-12, writing-done}
 use Rattle.sheet_write.proofs.write_sheet.Statement.{statement}
 use Rattle.sheet_write.proofs.write_sheet.Tie as tie
@@ -28,10 +26,10 @@ need c =
     omega (
       arith,
       c .records-size .ensures .0,
-      ap (λ (w : ℕ). length (recordsAt w N (walkAll N))) (at-place-bytes .place-bytes .ensures .0),
+      ap (λ (w : ℕ). length (allRecords w N)) (at-place-bytes .place-bytes .ensures .0),
       at-numbers-size .numbers-size .ensures .0,
       sheet-size (start .args .reg .now)
-          (start .args .nodes .now) (start .pre .0) (at-count-parts .count-parts .result) (length (held (start .args .nodes .now)))
+          (start .args .nodes .now) (start .pre .0) (at-count-parts .count-parts .result) (length (listed (start .args .nodes .now)))
           (at-count-parts .count-parts .ensures .0) refl (start .pre .1 .shape),
     )
 
@@ -78,16 +76,17 @@ returns c =
 cast-new : tie.Need-cast-new
 cast-new c = omega arith
 
-tally-at-requires : tie.Need-tally-at-requires
-tally-at-requires c κs =
+listed-count-requires : tie.Need-listed-count-requires
+listed-count-requires c κs =
     let start : tie.Start = search in
-    start .pre .1 .shape .sized .some-node
+    start .pre .1
 
 new-requires : tie.Need-new-requires
 new-requires c κs = tt
 
 put-items-requires : tie.Need-put-items-requires
 put-items-requires c κs =
+    let at-listed-count : tie.After-listed-count = search in
     let else1 : tie.Else1 = search in
     let at-records-size : tie.After-records-size = search in
     let at-count-parts : tie.After-count-parts = search in
@@ -98,8 +97,7 @@ put-items-requires c κs =
         (
           record {
             parts = c .before .new .ensures .0 ∙ at-count-parts .count-parts .ensures .0;
-            kits = c .before .new .ensures .1
-                ∙ c .before .before .tally-at .ensures ∙ root-counts (start .pre .1);
+            kits = c .before .new .ensures .1 ∙ at-listed-count .listed-count .ensures;
           },
           omega
               (arith, need at-records-size, else1 .if1 .left),
@@ -136,7 +134,7 @@ write-sheet-spec =
     add-need-3
     returns
     cast-new
-    tally-at-requires
+    listed-count-requires
     new-requires
     put-items-requires
     same-length
