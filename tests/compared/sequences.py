@@ -3,10 +3,11 @@
 The tables that the probe answered go into its next request. Plays the fixed sequences, then so
 many by chance: by turns one catalogue that is filled and emptied, and two catalogues whose sheets
 must agree exactly when their contents do. No call ever leaves a tag at the root, but in tables that
-were lent with one.
+were lent with one. A kit that is entered and struck out next leaves both tables as they were.
 """
 
-from made import empty_sequences, index_sequences, sheet_sequences, version_sequences
+from made import (
+    empty_sequences, index_sequences, sheet_sequences, undone_sequences, version_sequences)
 from made.chance import Chance
 from made.reached import sequences_reached
 from run.door import played
@@ -64,6 +65,10 @@ def compare(command, options):
     comparison.play("a torn label", sheet_sequences.torn_label)
     comparison.play("old tables with an empty kit", empty_sequences.old_tables)
     comparison.play("old sheets with an empty kit", empty_sequences.old_sheets)
+    comparison.play("struck out at once, around the room", undone_sequences.around_room)
+    comparison.play("struck out at once, few nodes", undone_sequences.few_nodes)
+    comparison.play("struck out at once, 4,096 nodes", undone_sequences.most_nodes)
+    comparison.play("struck out and entered again", undone_sequences.entered_again)
     comparison.play("both versions", version_sequences.both_versions)
     comparison.play("4,000 parts", version_sequences.four_thousand_parts)
     for turn in range(options.sequences):

@@ -192,3 +192,11 @@ def expect(came, number, value, what):
 def empty_catalogue(door, slots, node_count):
     """A catalogue begun empty, with so many slots and nodes."""
     return Catalogue(door, bytes(slots * SLOT_BYTES), [0] * (node_count * NODE_WORDS))
+
+
+def lent_catalogue(door, register_bytes, words):
+    """A catalogue begun with these sound tables, and with the contents that they hold."""
+    catalogue = Catalogue(door, register_bytes, list(words))
+    catalogue.contents = Contents(register.numbers_of(register_bytes), nodes.held_kits(words))
+    catalogue.told = True
+    return catalogue

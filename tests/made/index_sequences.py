@@ -16,6 +16,7 @@ from .reached import EMPTY_STRUCK, ENTERED_AGAIN, LACKED_ONE_NODE, TOOK_LAST_NOD
 from .register_requests import many_numbers
 from .short_cases import DELETE, SHORT_CASES
 from .tables import large_table, some_new_tag, some_row
+from .undone_sequences import strike_at_once
 
 # How many of the kits struck out last may come in again.
 REMEMBERED_KITS = 12
@@ -226,10 +227,14 @@ class Steps:
         """A beginning of a held kit, which takes no node, or the empty list, which is refused."""
         self.insert(self.some_beginning(), self.new_tag())
 
+    def row_for_last(self):
+        """A row that takes all free nodes or lacks one, or None where none was found."""
+        count = self.free() + self.chance.below(2)
+        return row_taking(self.chance, self.rows(), self.parts(), count) if count else None
+
     def insert_last(self):
         """A row that takes all free nodes, or one node more than are free."""
-        count = self.free() + self.chance.below(2)
-        row = row_taking(self.chance, self.rows(), self.parts(), count) if count else None
+        row = self.row_for_last()
         if row is not None:
             self.insert(row, self.new_tag())
 
@@ -244,6 +249,14 @@ class Steps:
         held, tag = self.chance.pick(sorted(kits.items()))
         self.insert(held, self.chance.pick((tag, self.new_tag())))
         self.insert(row, tag)
+
+    def strike_at_once(self):
+        """A row of this kind, a beginning or one for the last nodes, entered and struck at once."""
+        row = self.chance.pick((
+            self.kind.row(self.chance, self.rows(), self.parts()), self.some_beginning(),
+            self.row_for_last()))
+        if row and len(row) <= MOST_UNITS and row not in self.rows():
+            strike_at_once(self.catalogue, row, self.new_tag())
 
     def some_beginning(self):
         """A beginning of a held kit, which may be all of it or nothing."""
@@ -289,9 +302,10 @@ class Steps:
 
 FILLING = ([Steps.insert_new] * 6 + [Steps.insert_last] * 4 + [Steps.insert_beginning] * 2
            + [Steps.insert_again] * 2 + [Steps.delete_held] * 2 + [Steps.insert_refused]
-           + [Steps.delete_beginning, Steps.find_some])
+           + [Steps.delete_beginning, Steps.find_some, Steps.strike_at_once])
 EMPTYING = ([Steps.delete_held] * 6 + [Steps.delete_beginning] * 2 + [Steps.insert_again] * 2
-            + [Steps.insert_new, Steps.insert_last, Steps.insert_refused, Steps.find_some])
+            + [Steps.insert_new, Steps.insert_last, Steps.insert_refused, Steps.find_some,
+               Steps.strike_at_once])
 
 
 def by_chance(door, kind):

@@ -18,6 +18,7 @@ from second.refusals import (
 from .many_parts import EDGE_PLACES
 from .many_ways import BEHIND, WIDE_CUT, sizes_read
 from .sheet_requests import PRINTED_SHEET
+from .undone_ways import names_at_once
 from .version_requests import SMALLEST
 from .ways import ALL_WAYS, CUT_SHORT, LEFT_TO_LIMITS, LIST, names_of, sheet_read
 
@@ -188,6 +189,7 @@ def nodes_reached(verdicts):
 TOOK_LAST_NODE = "insertions took the last free node"
 LACKED_ONE_NODE = "insertions lacked one node"
 ENTERED_AGAIN = "kits struck out were entered again"
+AT_OTHER_NODES = "kits struck out and entered again stood at other nodes"
 ALMOST_FILLED = "listings had kits almost filled"
 BROUGHT_IN = "numbers that sheets alone bring in were registered and looked up"
 # Counts by how many of the kits held they tell, and the calls that they are asked behind.
@@ -210,10 +212,10 @@ SEQUENCES = "sequences"
 def sequences_reached():
     """What sequences of calls come to."""
     numbers = {letter: row - {WRONG_LENGTH, NOT_SOUND} for letter, row in NUMBERS.items()}
-    turns = {TOOK_LAST_NODE, LACKED_ONE_NODE, ENTERED_AGAIN, ALMOST_FILLED, BROUGHT_IN, ENDED_ALIKE,
-             ENDED_APART, ALL_SLOTS_TAKEN, EMPTY_STRUCK, OLD_TABLES_WRITTEN, OLD_SHEETS_READ,
-             OLD_SHEETS_WRITTEN, *VERSIONS_WRITTEN.values(), *COUNTED.values(),
-             *COUNTED_BEHIND.values()}
+    turns = {TOOK_LAST_NODE, LACKED_ONE_NODE, ENTERED_AGAIN, AT_OTHER_NODES, ALMOST_FILLED,
+             BROUGHT_IN, ENDED_ALIKE, ENDED_APART, ALL_SLOTS_TAKEN, EMPTY_STRUCK,
+             OLD_TABLES_WRITTEN, OLD_SHEETS_READ, OLD_SHEETS_WRITTEN, *VERSIONS_WRITTEN.values(),
+             *COUNTED.values(), *COUNTED_BEHIND.values(), *names_at_once()}
     return Reached(answers(numbers) | {(SEQUENCES, turn) for turn in turns})
 
 

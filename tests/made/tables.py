@@ -61,6 +61,15 @@ def copied(row, one, other):
     return row
 
 
+def some_order(chance, node_count):
+    """The numbers of so many nodes in any order, but the root's first."""
+    order = list(range(ROOT + 1, node_count))
+    for at in range(len(order) - 1, 0, -1):
+        other = chance.below(at + 1)
+        order[at], order[other] = order[other], order[at]
+    return [ROOT] + order
+
+
 def renumbered(words, order):
     """The table with node `at` moved to place order[at], all links along with it."""
     moved = [FREE] * len(order)
@@ -89,13 +98,8 @@ def large_table(kind):
     if kind == "long paths":
         return tuple(long_paths(Chance(64), MOST_NODES))
     if kind == "renumbered":
-        words = large_table("long paths")
-        order = list(range(1, MOST_NODES))
-        chance = Chance(65)
-        for at in range(len(order) - 1, 0, -1):
-            other = chance.below(at + 1)
-            order[at], order[other] = order[other], order[at]
-        return tuple(renumbered(list(words), [0] + order))
+        words = list(large_table("long paths"))
+        return tuple(renumbered(words, some_order(Chance(65), MOST_NODES)))
     raise ValueError(kind)
 
 

@@ -115,6 +115,9 @@ module _ (n R N : List ℕ) (v : ℕ) (e : answer (registering n R) ≡ done v) 
 
 -- what an accepted insertion was given
 pub record Insertion (l : List ℕ) (t : ℕ) (T : Tables) (v : ℕ) : Type 0 where
+  pub tables-pass : decide (lentBoth T) 0 ≡ done 0
+  pub list-passes : decide (listFaults (partCount T) l) 0 ≡ done 0
+  pub row-done : answer (insertingRow (units l) t (T .nodes)) ≡ done v
   pub good : goodList (partCount T) l ≡ true
   pub short : length (units l) ≤ mostUnits
   pub some-unit : 0 < length (units l)
@@ -131,6 +134,9 @@ insertion l t T v e =
     let s = done-passes _ _ _ _ (f .1) in
     let k = accepted (units l) (T .nodes) t v (s .1) in
     record {
+      tables-pass = a .0;
+      list-passes = f .0;
+      row-done = s .1;
       good = list-passed (partCount T) l (ap isRefused (f .0));
       short = ltb-false mostUnits (length (units l)) (s .0);
       some-unit = accepted-some-unit (units l) (T .nodes) t v (s .1);

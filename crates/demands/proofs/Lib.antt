@@ -12,6 +12,7 @@ pub mod Counts
 pub mod Sheets
 pub mod Told
 pub mod NoKit
+pub mod AtOnce
 pub mod Damaged
 pub mod AtFault
 pub mod LaidDown

@@ -4,7 +4,7 @@
 -- an empty kit".
 use mathlib.Core.Path.{_≡_}
 use mathlib.Core.Logic.{_↔_}
-use mathlib.Core.List.{List, List·Memᴰ, [], _++_, _∷_}
+use mathlib.Core.List.{List, List·Memᴰ, _++_, _∷_}
 use Prim.Native.Nat.{_+_, _<_, _≤_, ℕ}
 use lib.ListN.{drop, length, take}
 use Rattle.ground.specs.Calls.{answer, done, memory}

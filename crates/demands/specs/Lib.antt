@@ -7,6 +7,7 @@ pub mod Almost
 pub mod Beginning
 pub mod Demand3
 pub mod NoKit
+pub mod AtOnce
 pub mod Pins
 pub mod Before
 pub mod Versions

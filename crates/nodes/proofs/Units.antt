@@ -3,7 +3,7 @@ use mathlib.Core.Path.{_≡_, refl, sym, ap, _∙_}
 use mathlib.Core.Logic.{_↔_}
 use mathlib.Core.Bool.{Bool, true, false, cond, not}
 use mathlib.Core.List.{List, [], _∷_, map, List·Memᴰ, Memᴰ·of-map}
-use Prim.Native.Nat.{ℕ, suc, _+_, _<_}
+use Prim.Native.Nat.{ℕ, _+_, _<_}
 use native.Mathlib.Omega.{arith}
 use lib.ListN.{length}
 use lib.Dec.{eqb}
@@ -13,7 +13,7 @@ use Rattle.ground.specs.Lists.{keep, eqList}
 use Rattle.ground.proofs.Laws.{eqList-true}
 use Rattle.kits.specs.Kits.{before, begins}
 use Rattle.kits.specs.Inner.{GoodRow}
-use Rattle.nodes.specs.Nodes.{child, tag, tally, tagged, rowOf}
+use Rattle.nodes.specs.Nodes.{child, tag, tally, tagged}
 use Rattle.nodes.specs.Inner.{Shape, Sound, walk, walkAll}
 use Rattle.nodes.specs.Held.{Kit, comesBefore, putKit, dropKit, kitAt, held, listed, someUnit, withUnits}
 use Rattle.nodes.specs.Held.{beginsWith, countBeginning, beginnings, addNew, allBeginnings}

@@ -1,13 +1,11 @@
 -- The sheet of two sound tables: its items one behind the other, how many bytes they take, and what the writer's answers promise.
 use mathlib.Core.Path.{_≡_, refl, ap, sym, _∙_}
 use mathlib.Core.Logic.{⊎-elim, _≢_}
-use mathlib.Core.Bool.{Bool, true, false, not, cond}
+use mathlib.Core.Bool.{Bool, true, false, cond}
 use mathlib.Core.List.{List, [], _∷_, _++_, append-assoc}
 use Prim.Native.Nat.{ℕ, suc, _+_, _*_, _≤_, _<_}
 use native.Mathlib.Omega.{arith}
 use lib.ListN.{length, length-append}
-use lib.Dec.{eqb}
-use mir.Val.{boolByte}
 use Rattle.ground.specs.Laid.{Put}
 use Rattle.ground.specs.Lists.{from}
 use Rattle.ground.specs.Calls.{done, refused, Promise}
@@ -17,12 +15,11 @@ use Rattle.kits.specs.Kits.{before, mostPlace}
 use Rattle.register.specs.Register.{partsOf}
 use Rattle.register.specs.Inner.{Ready}
 use Rattle.register.proofs.Sound.{ready-holds, holds-parts}
-use Rattle.nodes.specs.Nodes.{tag, tally, child, next, size, nodesOf, mostNodes, isUsed, usedNodes, tagged}
-use Rattle.nodes.specs.Inner.{Shape, Sound, Used, Live, walk, walkAll}
+use Rattle.nodes.specs.Nodes.{tag, child, next, size, nodesOf, mostNodes, isUsed, usedNodes}
+use Rattle.nodes.specs.Inner.{Shape, Used, Live, walk, walkAll}
 use Rattle.nodes.specs.Held.{Kit, putKit, inOrder, listed}
 use Rattle.nodes.proofs.Beginnings.{used-walk}
-use Rattle.nodes.proofs.Tallies.{one-if}
-use Rattle.nodes.proofs.Units.{listed-is-walk, root-lists}
+use Rattle.nodes.proofs.Units.{listed-is-walk}
 use Rattle.nodes.proofs.Lists.{same-or}
 use Rattle.nodes.proofs.Sorted.{keep-short}
 use Rattle.nodes.proofs.Walk.{ind, walk-some, root-child}

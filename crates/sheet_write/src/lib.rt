@@ -13,7 +13,6 @@ ghost use Rattle.register.specs.Number.{longestNumber};
 ghost use Rattle.register.specs.Inner.{Ready, Short};
 ghost use Rattle.nodes.specs.Nodes.{parent, mostNodes};
 ghost use Rattle.nodes.specs.Inner.{Used, Shape, Sound};
-ghost use Rattle.nodes.specs.Held.{listed};
 ghost use Rattle.sheet.specs.Sheet.{lineBytes, contentsOf, encode};
 ghost use Rattle.sheet.specs.Calls.{writingOf};
 ghost use Rattle.sheet.specs.Inner.{Width, mostItem, mostRecord};

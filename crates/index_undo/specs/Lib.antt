@@ -1,0 +1,3 @@
+-- What tells a sound table word for word; a kit that is entered and deleted at once, and that the converse does not hold.
+pub mod Told
+pub mod Undone
