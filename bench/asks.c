@@ -45,6 +45,16 @@ static void agree(const Asking *a, int n)
     }
 }
 
+void asks_agree(void)
+{
+    Asking a[WAYS];
+    base_build(&base, &t);
+    for (int ask = 0; ask < ASKS; ask++) {
+        for (int w = 0; w < WAYS; w++) a[w] = (Asking){way(w), ask};
+        agree(a, WAYS);
+    }
+}
+
 void ask_some(int ask, const int *ways, int n, double *ns)
 {
     Asking a[WAYS];

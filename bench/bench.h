@@ -20,6 +20,11 @@ void row(const char *what, const double *ours, const double *plain, int n); // p
 enum { PUBLIC, INNER, OURS };
 void ask_times(int ask, double *ns);   // of all OURS + PLAIN_WAYS, on the present table
 void ask_some(int ask, const int *ways, int n, double *ns); // of these
+void asks_agree(void);                 // all ways of all questions on the present table
+// turns.c: a listing by pages and at once
+enum { TURN_PUBLIC, TURN_INNER, TURN_C, ONCE_PUBLIC, ONCE_INNER, ONCE_C, TURN_JOBS };
+double turn_times(bool containing, const int *jobs, int n, double *ns); // of these; the pages of a listing, on average
+void turns_agree(void);
 // index.c
 enum { CALL_FOUND, CALL_MISSED, CALL_INSERT, CALL_DELETE, CALLS };
 enum { TIER_PUBLIC, TIER_INNER, TIER_C_TABLE, TIER_HASH, TIERS };
@@ -31,9 +36,11 @@ void check_times(double *ns);
 enum { BEGIN_NONE, BEGIN_ONE, BEGIN_HALF, BEGINNINGS }; // the units that kits are to begin with: none, a kit's first, the first half of a kit's
 enum { COUNT_PUBLIC, COUNT_INNER, COUNT_C_WORD, COUNT_C_WALK, COUNT_JOBS };
 double count_times(int beginning, double *ns);          // the kits that begin so, on average
+void counts_agree(void);
 // sheets.c
 enum { WRITE_PUBLIC, WRITE_INNER, WRITE_C, READ_PUBLIC, READ_JUDGE, READ_C, SHEET_JOBS };
 size_t sheet_times(double *ns);        // the sheet's bytes
+void sheets_agree(void);               // the table's own sheet, and one with an empty kit
 // lines.c
 enum { DESK_NODES = 2048, BIN_PARTS = 24 };
 typedef struct { size_t bytes, reply; double ours, check, plain; } LineTimes;
@@ -42,10 +49,14 @@ LineTimes list_line(char letter, unsigned tag, const List *l);
 const List *short_bin(void);           // the first bin that has room on a line
 LineTimes other_line(const char *line);
 
+// parts.c
+void almost_agree(void);
+
 void section_asks(void);
 void section_calls(void);
 void section_checks(void);
 void section_counts(void);
+void section_turns(void);
 void section_growth(void);
 void section_sheet(void);
 void section_lines(void);

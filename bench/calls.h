@@ -12,11 +12,12 @@
 #define NODES_MUT uint16_t *, size_t
 #define LIST const uint16_t *, size_t
 #define OUT uint16_t *, size_t
+#define MARK bool *begun, size_t *len, uint16_t *places
 #define BYTES const uint8_t *, size_t
 #define BYTES_MUT uint8_t *, size_t
 
 // numbers of answers
-enum { DONE = 0, WRONG_LENGTH = 1, HELD = 9, TAG_BORNE = 10, NOT_HELD = 11, NO_ROOM = 12 };
+enum { DONE = 0, WRONG_LENGTH = 1, HELD = 9, TAG_BORNE = 10, NOT_HELD = 11, NO_ROOM = 12, NO_UNITS = 19 };
 
 // public: every call checks what it is lent
 uint8_t cat_empty(REG_MUT, NODES_MUT, size_t *);
@@ -31,6 +32,8 @@ uint8_t cat_any_containing(REG, NODES, LIST, size_t *);
 uint8_t cat_all_within(REG, NODES, LIST, OUT, size_t *);
 uint8_t cat_all_containing(REG, NODES, LIST, OUT, size_t *);
 uint8_t cat_all_almost(REG, NODES, LIST, uint16_t d, OUT, OUT, size_t *);
+uint8_t cat_page_within(REG, NODES, LIST, MARK, size_t *);
+uint8_t cat_page_containing(REG, NODES, LIST, MARK, size_t *);
 uint8_t cat_write_sheet(REG, NODES, BYTES_MUT, size_t *);
 uint8_t cat_read_sheet(REG_MUT, NODES_MUT, BYTES, size_t *);
 // the checks
@@ -47,6 +50,8 @@ uint16_t in_any_containing(NODES, LIST);
 uint8_t in_all_within(NODES, LIST, OUT, size_t *);
 uint8_t in_all_containing(NODES, LIST, OUT, size_t *);
 uint8_t in_all_almost(NODES, LIST, uint16_t d, OUT, OUT, size_t *);
+uint8_t in_page_within(NODES, LIST, MARK, size_t *);
+uint8_t in_page_containing(NODES, LIST, MARK, size_t *);
 uint8_t in_write_sheet(REG, NODES, BYTES_MUT, size_t *);
 size_t in_judge(BYTES);
 size_t desk_line(BYTES line, REG_MUT, NODES_MUT, OUT, BYTES_MUT sheet, BYTES_MUT reply);

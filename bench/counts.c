@@ -58,6 +58,12 @@ static size_t agree(const List *l, int n)
     return sum;
 }
 
+void counts_agree(void)
+{
+    for (int b = 0; b < BEGINNINGS; b++) { draw_beginnings(b); agree(begun, QUERIES); }
+    agree(t.fresh, t.fresh_kits);
+}
+
 double count_times(int beginning, double *ns)
 {
     Job job[COUNT_JOBS];

@@ -109,6 +109,25 @@ static void ask_rows(void)
     ask_row("all containing, inner: a shop, lists of 1 to 3 parts", ALL_CONTAINING, C_BEST);
 }
 
+// A whole listing by pages, and at once.
+static void turn_row(const char *what, bool containing)
+{
+    static const int jobs[] = {TURN_INNER, TURN_C, ONCE_INNER, ONCE_C};
+    double ns[4];
+    turn_times(containing, jobs, 4, ns);
+    row(what, (double[]){ns[0], ns[2]}, (double[]){ns[1], ns[3]}, 2);
+}
+
+static void turn_rows(void)
+{
+    shop(MOST_NODES);
+    turn_row("a listing by pages · at once, inner: a shop, within bins of 200 parts", false);
+    turn_row("a listing by pages · at once, inner: a shop, containing lists of 1 to 3 parts", true);
+    one_chain(&t, "one chain", CHAINED);
+    turn_row("a listing by pages · at once, inner: 3,999 siblings, within a bin of every part", false);
+    turn_row("a listing by pages · at once, inner: 3,999 siblings, containing nothing", true);
+}
+
 // ---- as nodes and parts grow
 static void grown(const char *what, const Grown *g, int from) { row(what, g->ours + from, g->plain + from, STEPS - from); }
 
@@ -189,6 +208,7 @@ void section_page(void)
     insert_row();
     count_rows();
     ask_rows();
+    turn_rows();
     grown_checks();
     grown_sheets();
     grown_calls();

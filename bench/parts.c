@@ -58,15 +58,20 @@ static void run_almost(void *arg)
     for (int q = 0; q < QUERIES; q++) sink = (*almost)(&t.within[q]);
 }
 
-static void almost_row(const char *of)
+void almost_agree(void)
 {
-    Job job[3];
     for (int q = 0; q < QUERIES; q++) {
         size_t n = cat_almost(&t.within[q]);
         for (int j = 1; j < 3; j++) {
             if (almosts[j](&t.within[q]) != n || memcmp(tags[0], tags[j], n * 2) || memcmp(shorts[0], shorts[j], n * 2)) differs("all almost");
         }
     }
+}
+
+static void almost_row(const char *of)
+{
+    Job job[3];
+    almost_agree();
     for (int j = 0; j < 3; j++) job[j] = (Job){run_almost, (void *)&almosts[j], QUERIES, 0};
     race(job, 3);
     tiers("all that lack at most 2", of, job[0].time, job[1].time, job[2].time);

@@ -15,18 +15,44 @@ static void do_cat_read(void *a) { size_t v; (void)a; sink = cat_read_sheet(READ
 static void do_judge(void *a) { (void)a; sink = (unsigned)in_judge(sheet, bytes); }
 static void do_plain_read(void *a) { (void)a; sink = (unsigned)plain_read(sheet, bytes, reg2, (size_t)t.slots, (Node *)nodes2, t.cap); }
 
-// Sheets and tables agree in every byte.
+// Tables read off the sheet at hand agree in every byte.
+static void same_read(void)
+{
+    size_t v;
+    if (in_judge(sheet, bytes) != (size_t)t.used) differs("judge");
+    if (cat_read_sheet(READ_INTO, &v) || (int)v != t.kits || memcmp(reg2, t.reg, sizeof reg2)) differs("read");
+    memcpy(saved, nodes2, sizeof saved);
+    if (plain_read(sheet, bytes, reg2, (size_t)t.slots, (Node *)nodes2, t.cap) != t.kits) differs("read in C");
+    if (memcmp(saved, nodes2, sizeof saved) || memcmp(reg2, t.reg, sizeof reg2)) differs("the tables read in C");
+}
+
+// So do the sheets of the present table.
 static void same_sheets(void)
 {
     size_t v;
     if (cat_write_sheet(REG_OF(t), NODES_OF(t), sheet, sizeof sheet, &bytes)) differs("write");
     if (in_write_sheet(REG_OF(t), NODES_OF(t), sheet2, sizeof sheet2, &v) || v != bytes || memcmp(sheet, sheet2, bytes)) differs("the inner sheet");
     if (plain_write(&t, sheet2) != bytes || memcmp(sheet, sheet2, bytes)) differs("the sheet in C");
-    if (in_judge(sheet, bytes) != (size_t)t.used) differs("judge");
-    if (cat_read_sheet(READ_INTO, &v) || (int)v != t.kits || memcmp(reg2, t.reg, sizeof reg2)) differs("read");
-    memcpy(saved, nodes2, sizeof saved);
-    if (plain_read(sheet, bytes, reg2, (size_t)t.slots, (Node *)nodes2, t.cap) != t.kits) differs("read in C");
-    if (memcmp(saved, nodes2, sizeof saved) || memcmp(reg2, t.reg, sizeof reg2)) differs("the tables read in C");
+    same_read();
+}
+
+// The sheet at hand with an empty kit before the others, as a writer from before request 14 set it down.
+static void make_old(void)
+{
+    size_t at = 7;
+    for (int k = 0; k < t.parts; k++) at += 1u + sheet[at];
+    unsigned kits = (unsigned)t.kits + 1, tag = new_tag();
+    uint8_t record[] = {(uint8_t)(kits >> 8), (uint8_t)kits, (uint8_t)(tag >> 8), (uint8_t)tag, 0};
+    memmove(sheet + at + sizeof record, sheet + at + 2, bytes - at - 2);
+    memcpy(sheet + at, record, sizeof record);
+    bytes += sizeof record - 2;
+}
+
+void sheets_agree(void)
+{
+    same_sheets();
+    make_old();
+    same_read();
 }
 
 size_t sheet_times(double *ns)

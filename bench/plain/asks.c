@@ -1,6 +1,5 @@
 // The questions in plain C over the same kits: five other ways, and two walks down the same tree.
 #include "plain.h"
-#include <string.h>
 
 void base_build(Base *b, const Table *t)
 {
@@ -119,7 +118,6 @@ INLINE unsigned postings_within(Base *b, const List *l, uint16_t *out, bool any)
             if (b->stamp[k] != b->epoch) { b->stamp[k] = b->epoch; b->seen[k] = 0; }
             if (++b->seen[k] == b->t->kit[k].n / 2) { if (k < first) first = k; if (last < k) last = k; }
         }
-    if (b->t->kits && b->t->kit[0].n == 0) TAKE(0);
     if (any) return first == MOST_KITS ? 0 : b->t->tag[first];
     for (int k = first; k <= last; k++)
         if (b->stamp[k] == b->epoch && b->seen[k] == b->t->kit[k].n / 2) TAKE(k);
@@ -230,7 +228,6 @@ static unsigned walk_any_within(Base *b, const List *l, uint16_t *out)
     const Node *t = node_in(b->t);
     uint16_t a[SHOP_PLACES];
     (void)out;
-    if (t->tag) return t->tag;
     amounts(l, a);
     return first_within(t, a, last_place(a), t->child, 0, 0);
 }
@@ -241,23 +238,17 @@ static unsigned walk_any_containing(Base *b, const List *l, uint16_t *out)
     uint16_t a[SHOP_PLACES];
     (void)out;
     amounts(l, a);
-    unsigned want = next_wanted(a, 0);
-    if (want == SHOP_PLACES && t->tag) return t->tag;
-    return first_containing(t, a, t->child, want, 0);
+    return first_containing(t, a, t->child, next_wanted(a, 0), 0);
 }
 
 INLINE unsigned set_within(const Node *t, const uint16_t *a, uint16_t *out, unsigned room)
 {
-    unsigned n = 0;
-    if (t->tag) { if (room) out[0] = t->tag; n = 1; }
-    return list_within(t, a, out, room, n, last_place(a), t->child, 0, 0);
+    return list_within(t, a, out, room, 0, last_place(a), t->child, 0, 0);
 }
 
 INLINE unsigned set_containing(const Node *t, const uint16_t *a, uint16_t *out, unsigned room)
 {
-    unsigned n = 0, want = next_wanted(a, 0);
-    if (want == SHOP_PLACES && t->tag) { if (room) out[0] = t->tag; n = 1; }
-    return list_containing(t, a, out, room, n, t->child, want, 0);
+    return list_containing(t, a, out, room, 0, t->child, next_wanted(a, 0), 0);
 }
 
 static unsigned walk_all_within(Base *b, const List *l, uint16_t *out)
@@ -280,25 +271,18 @@ static unsigned walk_all_containing(Base *b, const List *l, uint16_t *out)
 // next looked up, and all that is below a full match taken without a test
 typedef struct { const Node *t; uint16_t amount[PLACES], after[PLACES]; unsigned top, first; uint16_t *out; unsigned n; bool any; } Best;
 
-// Nothing of any place that the table's parts have.
-INLINE void clear(uint16_t *amount, const Table *t)
+INLINE void best_start(Best *w, const Table *t, const uint16_t *list, size_t n, uint16_t *out, bool any, bool containing)
 {
-    if (t->parts < SHOP_PLACES) memset(amount, 0, SHOP_PLACES * sizeof *amount);
-    else memset(amount, 0, PLACES * sizeof *amount);
-}
-
-INLINE void best_start(Best *w, Base *b, const List *l, uint16_t *out, bool any, bool containing)
-{
-    w->t = node_in(b->t);
+    w->t = node_in(t);
     w->out = out;
     w->n = 0;
     w->any = any;
-    w->top = l->n ? l->w[l->n - 2] : 0;
-    w->first = l->n ? l->w[0] : PLACES;
-    if (!containing) clear(w->amount, b->t);
-    for (int i = 0; i < l->n; i += 2) {
-        w->amount[l->w[i]] = l->w[i + 1];
-        w->after[l->w[i]] = i + 2 < l->n ? l->w[i + 2] : PLACES;
+    w->top = n ? list[n - 2] : 0;
+    w->first = n ? list[0] : PLACES;
+    if (!containing) clear_amounts(w->amount, t);
+    for (size_t i = 0; i < n; i += 2) {
+        w->amount[list[i]] = list[i + 1];
+        w->after[list[i]] = i + 2 < n ? list[i + 2] : PLACES;
     }
 }
 
@@ -351,18 +335,28 @@ static bool best_containing(Best *w, unsigned at, unsigned want, unsigned got)
 INLINE unsigned bests_within(Base *b, const List *l, uint16_t *out, bool any)
 {
     Best w;
-    best_start(&w, b, l, out, any, false);
-    if (!(w.t->tag && best_take(&w, w.t->tag))) best_within(&w, w.t->child, 0, 0);
+    best_start(&w, b->t, LENT(*l), out, any, false);
+    best_within(&w, w.t->child, 0, 0);
     return any ? (w.n ? out[0] : 0) : w.n;
 }
 
 INLINE unsigned bests_containing(Base *b, const List *l, uint16_t *out, bool any)
 {
     Best w;
-    best_start(&w, b, l, out, any, true);
-    if (l->n == 0) { if (!(w.t->tag && best_take(&w, w.t->tag))) best_below(&w, w.t->child); }
+    best_start(&w, b->t, LENT(*l), out, any, true);
+    if (l->n == 0) best_below(&w, w.t->child);
     else best_containing(&w, w.t->child, w.first, 0);
     return any ? (w.n ? out[0] : 0) : w.n;
+}
+
+unsigned plain_all(const Table *t, bool containing, const uint16_t *list, size_t n, uint16_t *out)
+{
+    Best w;
+    best_start(&w, t, list, n, out, false, containing);
+    if (!containing) best_within(&w, w.t->child, 0, 0);
+    else if (n == 0) best_below(&w, w.t->child);
+    else best_containing(&w, w.t->child, w.first, 0);
+    return w.n;
 }
 
 #define FOUR(name, within, containing) \
@@ -405,9 +399,8 @@ unsigned plain_almost(const Table *table, const List *l, unsigned d, uint16_t *t
 {
     Almost w;
     w.t = node_in(table), w.d = d, w.n = 0, w.tags = tags, w.shorts = shorts;
-    clear(w.amount, table);
+    clear_amounts(w.amount, table);
     for (int i = 0; i < l->n; i += 2) w.amount[l->w[i]] = l->w[i + 1];
-    if (w.t->tag) { tags[0] = w.t->tag; shorts[0] = 0; w.n = 1; }
     almost_from(&w, w.t->child, 0, 0, 0);
     return w.n;
 }
@@ -453,10 +446,9 @@ Walked walked(const Table *table, int ask, const List *l)
     amounts(l, a);
     seen_nodes = least_nodes = 1; // the root
     if (ask == ANY_WITHIN || ask == ALL_WITHIN) {
-        if (!(any && t->tag)) go_within(t, a, last_place(a), t->child, 0, 0, any);
+        go_within(t, a, last_place(a), t->child, 0, 0, any);
     } else {
-        unsigned want = next_wanted(a, 0);
-        if (!(any && want == SHOP_PLACES && t->tag)) go_containing(t, a, t->child, want, 0, any);
+        go_containing(t, a, t->child, next_wanted(a, 0), 0, any);
     }
     return (Walked){seen_nodes, least_nodes};
 }

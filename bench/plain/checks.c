@@ -1,6 +1,5 @@
 // The checks of both tables: the register's numbers by pairs and by a hash, the node table in a few passes.
 #include "plain.h"
-#include <string.h>
 
 enum { LONGEST_NUMBER = 24, MOST_QUANTITY = 15 };
 

@@ -1,6 +1,5 @@
 // A line of the desk: numbers are found by a hash beside the register, questions by the better walk down the tree.
 #include "plain.h"
-#include <string.h>
 
 enum { NUMBERS = 512 };
 static Base *base;

@@ -1,6 +1,5 @@
 // Find, insert and delete: a hash map, and the same node table.
 #include "plain.h"
-#include <string.h>
 
 // ---- a hash map with open addressing, the kit's lines as the key
 enum { MAP = 16384, GONE = -2, NONE = -1 };
@@ -134,6 +133,8 @@ int plain_insert(Node *t, int cap, const List *l, uint16_t tag, size_t *value)
     Row r = row_of(l);
     Reached end = reached(t, &r);
     int needs = r.n - end.depth, next = 1;
+    *value = 0;
+    if (r.n == 0) return NO_UNITS;
     *value = needs ? 0 : t[end.at].tag;
     if (*value) return HELD;
     if (is_borne(t, cap, tag)) return TAG_BORNE;
@@ -174,7 +175,7 @@ size_t plain_count(const Node *t, const List *l)
 {
     Row r = row_of(l);
     Reached end = reached(t, &r);
-    return end.depth < r.n ? 0 : t[end.at].tally;
+    return end.depth < r.n ? 0 : (size_t)(t[end.at].tally - (!r.n && t->tag));
 }
 
 static size_t tags_from(const Node *t, int at)
@@ -188,5 +189,5 @@ size_t walk_count(const Node *t, const List *l)
 {
     Row r = row_of(l);
     Reached end = reached(t, &r);
-    return end.depth < r.n ? 0 : (t[end.at].tag != 0) + tags_from(t, t[end.at].child);
+    return end.depth < r.n ? 0 : (r.n && t[end.at].tag) + tags_from(t, t[end.at].child);
 }

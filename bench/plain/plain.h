@@ -2,6 +2,7 @@
 #ifndef PLAIN_H
 #define PLAIN_H
 #include "../tables.h"
+#include <string.h>
 
 // ---- the questions (asks.c)
 typedef struct {
@@ -26,12 +27,24 @@ typedef struct { const char *name; Ask *ask[ASKS]; } Way;
 enum { C_WALK, C_BEST, ROWS, VECTORS, INVERTED, BITMAPS, PLAIN_WAYS };
 extern const Way plain_ways[PLAIN_WAYS];
 
+// The same of a list as it is lent, of more lines than a List has: how many, and their tags in out. By C_BEST.
+unsigned plain_all(const Table *t, bool containing, const uint16_t *list, size_t n, uint16_t *out);
+
+// Nothing of any place that the table's parts have.
+static inline void clear_amounts(uint16_t *amount, const Table *t)
+{
+    memset(amount, 0, (t->parts < SHOP_PLACES ? SHOP_PLACES : PLACES) * sizeof *amount);
+}
+
 // Kits that lack at most d units of the bin: how many, their tags and what each lacks.
 unsigned plain_almost(const Table *t, const List *bin, unsigned d, uint16_t *tags, uint16_t *shorts);
 
 // nodes whose label is read, and the fewest that any walk down the same tree must enter
 typedef struct { long entered, least; } Walked;
 Walked walked(const Table *t, int ask, const List *l);
+
+// ---- the pages of a listing (pages.c): the tag of the first kit after the bookmark's row, and the bookmark there; or 0, and the bookmark stays
+unsigned plain_page(const Table *t, bool containing, const uint16_t *list, size_t n, Mark *mark);
 
 // ---- find, insert, delete (index.c): a hash map from lists to tags with the tags that are borne, and the same node table, word for word.
 // Number and value as ours.

@@ -1,6 +1,5 @@
 // The sheet: written in one walk, judged and read in one pass. Up to 255 parts it is version 1 and a place takes one byte, else version 2 and two bytes.
 #include "plain.h"
-#include <string.h>
 
 enum { LONGEST_NUMBER = 24, MOST_QUANTITY = 15, HEAD = 7, RECORD_HEAD = 3 };
 
@@ -53,8 +52,7 @@ size_t plain_write(const Table *table, uint8_t *start)
         memcpy(out, s, 1u + s[0]);
         out += 1 + s[0];
     }
-    out = put_two(out, t->tally);
-    if (t->tag) { out = put_two(out, t->tag); *out++ = 0; }
+    out = put_two(out, t->tally - (t->tag != 0)); // an empty kit of an old table is left out
     return (size_t)((narrow ? put_narrow : put_wide)(t, t->child, lines, 0, out) - start);
 }
 
@@ -67,7 +65,7 @@ typedef struct {
     uint16_t row[MOST_UNITS + MOST_QUANTITY + 1], prev[MOST_UNITS];
     int n, len;              // units of the row, and of the one before
     Node *t;
-    int used, cap;
+    int used, cap, kits;
     uint16_t path[MOST_UNITS + 1];
 } Reader;
 
@@ -115,8 +113,11 @@ static bool append_row(Reader *r, bool first, unsigned tag)
         else r->t[r->path[d]].child = (uint16_t)r->used;
         r->path[d + 1] = (uint16_t)r->used++;
     }
-    r->t[r->path[r->n]].tag = (uint16_t)tag;
-    r->t[r->path[r->n]].tally = 1;
+    if (r->n) { // an empty kit of an old sheet is dropped
+        r->t[r->path[r->n]].tag = (uint16_t)tag;
+        r->t[r->path[r->n]].tally = 1;
+        r->kits++;
+    }
     memcpy(r->prev, r->row, sizeof r->prev);
     r->len = r->n;
     return true;
@@ -153,5 +154,5 @@ int plain_read(const uint8_t *s, size_t size, uint8_t *reg, size_t slots, Node *
     r.at += 2;
     for (int k = 0; k < kits; k++) if (!read_record(&r, k == 0)) return -1;
     for (int i = r.used - 1; i > 0; i--) t[t[i].parent].tally += t[i].tally; // each node stands behind its parent
-    return r.at == r.end ? kits : -1;
+    return r.at == r.end ? r.kits : -1;
 }

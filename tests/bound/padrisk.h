@@ -38,6 +38,16 @@ uint8_t padrisk_all_almost(const uint8_t *reg, size_t reg_bytes, const uint16_t 
                            size_t bin_words, uint16_t d, uint16_t *tags, size_t tag_words, uint16_t *shorts, size_t short_words,
                            uint32_t *value);
 
+// The next page of a listing: the tag of the first kit after the bookmark's row, or 0 where none is left. The bookmark is lent in
+// parts and moved on in place: *begun is 0 before the first page (any other number is begun, and stays), *len how many of the 64
+// places are the row of the last kit shown. Where nothing is shown, and where the call is refused, all three stay as they are.
+enum { PADRISK_PLACES = 64 };
+uint8_t padrisk_turn_within(const uint8_t *reg, size_t reg_bytes, const uint16_t *nodes, size_t node_words, const uint16_t *bin,
+                            size_t bin_words, uint8_t *begun, size_t *len, uint16_t *places, uint32_t *value);
+uint8_t padrisk_turn_containing(const uint8_t *reg, size_t reg_bytes, const uint16_t *nodes, size_t node_words,
+                                const uint16_t *list, size_t list_words, uint8_t *begun, size_t *len, uint16_t *places,
+                                uint32_t *value);
+
 uint8_t padrisk_write_sheet(const uint8_t *reg, size_t reg_bytes, const uint16_t *nodes, size_t node_words, uint8_t *out,
                             size_t out_bytes, uint32_t *value);
 uint8_t padrisk_read_sheet(uint8_t *reg, size_t reg_bytes, uint16_t *nodes, size_t node_words, const uint8_t *sheet,

@@ -63,6 +63,75 @@ static void writes(void) {
     answered(padrisk_write_sheet(reg, REG, nodes, NODES, out, SHEET - 1, &value), 12, SHEET, "W one byte short");
 }
 
+typedef struct {
+    uint8_t begun;
+    size_t len;
+    uint16_t places[PADRISK_PLACES];
+} Bookmark;
+
+static Bookmark mark;
+
+// A bookmark with this in every place.
+static void marked(uint8_t begun, size_t len, uint16_t place) {
+    mark.begun = begun, mark.len = len;
+    for (size_t at = 0; at < PADRISK_PLACES; at++) mark.places[at] = place;
+}
+
+// The bookmark is begun at this row, with zeros behind it.
+static void stands_at(uint8_t begun, const uint16_t *row, size_t len, const char *what) {
+    bool same = mark.begun == begun && mark.len == len;
+    for (size_t at = 0; at < PADRISK_PLACES; at++) same = same && mark.places[at] == (at < len ? row[at] : 0);
+    expect(same, what);
+}
+
+// The bookmark is still the one of `marked`.
+static void stays(uint8_t begun, size_t len, uint16_t place, const char *what) {
+    bool same = mark.begun == begun && mark.len == len;
+    for (size_t at = 0; at < PADRISK_PLACES; at++) same = same && mark.places[at] == place;
+    expect(same, what);
+}
+
+static void turns_within(const uint16_t *bin, size_t words, uint8_t number, uint32_t wanted) {
+    answered(padrisk_turn_within(reg, REG, nodes, NODES, bin, words, &mark.begun, &mark.len, mark.places, &value), number, wanted, "turn within");
+}
+
+static void turns_containing(const uint16_t *list, size_t words, uint8_t number, uint32_t wanted) {
+    answered(padrisk_turn_containing(reg, REG, nodes, NODES, list, words, &mark.begun, &mark.len, mark.places, &value), number, wanted,
+             "turn containing");
+}
+
+// Pages of the kits 9, 7 and 5, whose rows are (1), (1, 1, 3) and (2): to the end, once more, and from bookmarks of any kind.
+static void turns(void) {
+    static const uint16_t bin[] = {1, 1, 2, 4}, one[] = {1, 1}, first[] = {1}, longer[] = {1, 1, 3}, second[] = {2};
+    marked(0, 99, 65535);
+    turns_containing(one, 0, 0, 9), stands_at(1, first, 1, "the first page is not behind a bookmark not begun");
+    turns_containing(one, 0, 0, 7), stands_at(1, longer, 3, "the second page stands elsewhere");
+    turns_containing(one, 0, 0, 5), stands_at(1, second, 1, "a shorter row leaves more than zeros behind it");
+    turns_containing(one, 0, 0, 0), stands_at(1, second, 1, "the bookmark does not stay at the end");
+    marked(0, 99, 65535);
+    turns_within(bin, 4, 0, 9), turns_within(bin, 4, 0, 5), stands_at(1, second, 1, "the last page within the bin stands elsewhere");
+    turns_within(bin, 4, 0, 0), stands_at(1, second, 1, "the bookmark does not stay at the end of the bin's kits");
+    marked(2, 1, 1), turns_containing(one, 2, 0, 7), stands_at(2, longer, 3, "a number other than 0 does not stay");
+    marked(0, 7, 3), turns_within(one, 0, 0, 0), stays(0, 7, 3, "a bookmark not begun does not stay where nothing answers");
+    marked(1, 0, 9), turns_containing(one, 2, 0, 9), stands_at(1, first, 1, "a begun bookmark of length 0 is not before all kits");
+    marked(1, 15, 1), turns_containing(one, 2, 0, 7), stands_at(1, longer, 3, "15 equal places are not taken");
+}
+
+// A bookmark at fault: 15, behind a list at fault; every part of it stays.
+static void turns_refused(void) {
+    static const uint16_t one[] = {1, 1};
+    marked(1, 16, 1), turns_containing(one, 0, 15, 0), stays(1, 16, 1, "16 equal places: the bookmark is another");
+    marked(255, 65, 1), turns_within(one, 2, 15, 0), stays(255, 65, 1, "longer than 64: the bookmark is another");
+    marked(1, 1, 4), turns_containing(one, 0, 15, 0), stays(1, 1, 4, "a place beyond the parts: the bookmark is another");
+    marked(1, 1, 0), turns_within(one, 2, 15, 0), stays(1, 1, 0, "a place 0: the bookmark is another");
+    marked(1, (size_t)-1, 1), turns_within(one, 1, 4, 1), stays(1, (size_t)-1, 1, "a list at fault: the bookmark is another");
+    marked(1, ((size_t)1 << 32) + 1, 1), turns_containing(one, 2, 15, 0);
+    stays(1, ((size_t)1 << 32) + 1, 1, "a length above 32 bits: the bookmark is another");
+    marked(1, 2, 2), mark.places[1] = 1;
+    turns_containing(one, 0, 15, 0);
+    expect(mark.begun == 1 && mark.len == 2 && mark.places[0] == 2 && mark.places[1] == 1, "a fall: the bookmark is another");
+}
+
 // The lines of the example up to the first W.
 static void printed_lines(void) {
     static const uint16_t two_and_one[] = {1, 2, 3, 1}, one[] = {1, 1}, second[] = {2, 1}, third[] = {3, 1}, falls[] = {3, 2, 3, 1};
@@ -83,6 +152,7 @@ static void printed_lines(void) {
     answered(padrisk_count_beginning(reg, REG, nodes, NODES, one, 2, &value), 0, 2, "count");
     answered(padrisk_count_beginning(reg, REG, nodes, NODES, one, 0, &value), 0, 3, "count of all");
     answered(padrisk_count_beginning(reg, REG, nodes, NODES, third, 2, &value), 0, 0, "count of none");
+    turns(), turns_refused();
     answered(padrisk_find(reg, REG, nodes, NODES, two_and_one, 4, &value), 0, 7, "F");
     answered(padrisk_delete(reg, REG, nodes, NODES, two_and_one, 4, &value), 0, 7, "D");
     answered(padrisk_find(reg, REG, nodes, NODES, two_and_one, 4, &value), 11, 0, "F behind D");

@@ -4,10 +4,12 @@ The tables that the probe answered go into its next request. Plays the fixed seq
 many by chance: by turns one catalogue that is filled and emptied, and two catalogues whose sheets
 must agree exactly when their contents do. No call ever leaves a tag at the root, but in tables that
 were lent with one. A kit that is entered and struck out next leaves both tables as they were.
+Listings are paged through, and kits come and go between two pages.
 """
 
 from made import (
-    empty_sequences, index_sequences, sheet_sequences, undone_sequences, version_sequences)
+    empty_sequences, index_sequences, page_sequences, sheet_sequences, undone_sequences,
+    version_sequences)
 from made.chance import Chance
 from made.reached import sequences_reached
 from run.door import played
@@ -69,6 +71,11 @@ def compare(command, options):
     comparison.play("struck out at once, few nodes", undone_sequences.few_nodes)
     comparison.play("struck out at once, 4,096 nodes", undone_sequences.most_nodes)
     comparison.play("struck out and entered again", undone_sequences.entered_again)
+    comparison.play("pages by hand", page_sequences.by_hand)
+    comparison.play("paged to the end", page_sequences.to_the_end)
+    comparison.play("changed between pages", page_sequences.changed_between)
+    comparison.play("paged through 4,096 nodes", page_sequences.full_tables)
+    comparison.play("changed between pages of 4,096 nodes", page_sequences.changed_in_full)
     comparison.play("both versions", version_sequences.both_versions)
     comparison.play("4,000 parts", version_sequences.four_thousand_parts)
     for turn in range(options.sequences):

@@ -3,12 +3,14 @@
 The tables that the program answered go into its next request. Beside them the second program
 carries tables of its own, and every block of every answer is compared. The contents are a third
 account, kept by the calls and replies alone. Behind each call it is asked how many kits begin with
-some row, and the answer is held against the contents. No call enters an empty kit: a table has one
-only where it was lent with it.
+some row, and the answer is held against the contents, as is every page that is turned. No call
+enters an empty kit: a table has one only where it was lent with it.
 """
 
+from collections import Counter
+
 from run.door import Different
-from second import calls, nodes, register, sheet
+from second import calls, nodes, paging, register, sheet
 from second.kits import (
     beginnings, first_fault, lines_of, lines_of_words, units, with_units, words_of)
 from second.lent import Request
@@ -16,6 +18,7 @@ from second.nodes import NO_TAG, NODE_WORDS, ROOT
 from second.refusals import DONE
 from second.register import SLOT_BYTES
 
+from .bookmarks import PAGE_LETTERS, begun_at
 from .empty_ways import ROOT_TAG_AT
 from .reached import ANSWER, COUNTED, COUNTED_BEHIND, SEQUENCES
 from .requests import fill_unused
@@ -67,6 +70,15 @@ class Contents:
         """How many kits with at least one unit have this row as a beginning."""
         return sum(row in beginnings([kit]) | {()} for kit in self.listed().kits)
 
+    def answering(self, letter, row):
+        """The rows of the kits within a bin (g) or containing a list (G), in listing order.
+
+        A kit is within a bin when nothing of it is left without what the bin has.
+        """
+        given = Counter(row)
+        left = {"g": lambda kit: Counter(kit) - given, "G": lambda kit: given - Counter(kit)}
+        return [kit for kit in sorted(self.listed().kits) if not left[letter](kit)]
+
     def sheet(self):
         """The sheet that the document lays down for these contents."""
         return sheet.written(self.numbers, self.kits)
@@ -111,6 +123,8 @@ class Catalogue:
             self.check_root()
         if letter == "#" and came.done():
             self.check_count(units(lines_of_words(sent.blocks["L"])), came)
+        if letter in PAGE_LETTERS and came.done() and self.told:
+            self.check_page(sent, came)
         return came
 
     def check_root(self):
@@ -136,6 +150,17 @@ class Catalogue:
         self.came_to(COUNTED["one"], right == 1)
         self.came_to(COUNTED["several"], 1 < right < kits)
         self.came_to(COUNTED["all"], right == kits > 1 and row)
+
+    def check_page(self, sent, came):
+        """A page is the first of the kits, by calls and replies, that answers behind the row."""
+        row, bookmark = units(lines_of_words(sent.blocks["L"])), sent.blocks["K"]
+        before = paging.bookmark_of(bookmark)
+        left = [kit for kit in self.contents.answering(sent.letter, row)
+                if not before.begun or kit > paging.row_of(before)]
+        what = "a page of %s behind %s, of %r" % (row, before, self.contents)
+        expect(came, DONE, self.contents.kits[left[0]] if left else 0, what)
+        if came.blocks["K"] != (begun_at(left[0]) if left else bookmark):
+            raise Different([what + ": the bookmark", "  %s" % came.blocks["K"]])
 
     def count_near(self, listed):
         """Counts the kits that begin as this list does, as a held kit does, or with a unit more."""

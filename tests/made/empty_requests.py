@@ -13,7 +13,7 @@ from second.register import filled
 from second.sheet import BYTE_PLACES
 
 from .index_requests import (
-    ALL_LETTERS, LIST_LETTERS, QUESTION_LETTERS, TABLE_LETTERS, pairs_of_tables, some_outputs)
+    ALL_LETTERS, LIST_LETTERS, QUESTION_LETTERS, TABLE_LETTERS, lent_beside, pairs_of_tables)
 from .register_requests import shortest_numbers
 from .sheet_requests import OLD_BYTES, THREE, old_sheet, reading
 from .tables import parts_register, table
@@ -81,14 +81,14 @@ def lists_given():
     for words, listed, letter in product(TABLES.values(), LISTS + FAULTY_LISTS, LIST_LETTERS):
         for a in ARGUMENTS.get(letter, (0,)):
             yield Request(letter, a, R=parts_register(3), N=words, L=listed,
-                          **some_outputs(letter), note="an empty kit, list %s" % listed)
+                          **lent_beside(letter), note="an empty kit, list %s" % listed)
 
 
 def outputs():
     """Listings into an output exactly full, one short, empty, and with room behind."""
     for words, room, listed, letter in product(TABLES.values(), range(6), LISTS, "WCa"):
         yield Request(letter, 2, R=parts_register(3), N=words, L=listed,
-                      **some_outputs(letter, room), note="an empty kit, into %d places" % room)
+                      **lent_beside(letter, room), note="an empty kit, into %d places" % room)
 
 
 def counted_without():
@@ -96,7 +96,7 @@ def counted_without():
     for change, letter in product((-1, 1), TABLE_LETTERS):
         row = nodes.nodes_of(TABLES["an empty kit entered first"])
         row[ROOT] = row[ROOT]._replace(tagged=row[ROOT].tagged + change)
-        yield Request(letter, 8, R=parts_register(3), N=nodes.words_of(row), **some_outputs(letter),
+        yield Request(letter, 8, R=parts_register(3), N=nodes.words_of(row), **lent_beside(letter),
                       O=bytes(60), note="the root's word changed by %d" % change)
 
 
@@ -113,7 +113,7 @@ def tables_before_19():
     """1 and 2 for each table before 19, and for every other call on the empty list."""
     for register, words, note in pairs_of_tables():
         for letter in ALL_LETTERS:
-            yield Request(letter, 8, R=register, N=words, **some_outputs(letter), O=bytes(60),
+            yield Request(letter, 8, R=register, N=words, **lent_beside(letter), O=bytes(60),
                           note="the empty list, " + note)
 
 
@@ -146,7 +146,7 @@ def old_sheets():
         for letter, listed in product("fd", ([], *map(list_of, kits))):
             yield Request(letter, L=listed, **lent)
         for letter in QUESTION_LETTERS:
-            yield Request(letter, **some_outputs(letter), **lent)
+            yield Request(letter, **lent_beside(letter), **lent)
         for listed in ([], [3, 2]):
             yield Request("k", kits[()], L=listed, **lent)
         for room in (len(data) - 4, len(data) - 3, len(data)):
@@ -170,7 +170,7 @@ def sweeps():
             for letter in QUESTION_LETTERS:
                 for d in range(4) if letter == "a" else (0,):
                     yield Request(letter, d, R=parts_register(2), N=words, L=listed,
-                                  **some_outputs(letter, 7),
+                                  **lent_beside(letter, 7),
                                   note="%d kits, list %s" % (len(kept), listed))
 
 

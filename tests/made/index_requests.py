@@ -10,6 +10,7 @@ from second.nodes import MOST_NODES, NODE_WORDS
 from second.register import filled
 from second.sheet import BYTE_PLACES
 
+from .bookmarks import PAGE_LETTERS, not_begun
 from .broken_tables import (
     BROKEN_TABLES, LOST_NODES, RAW_PATHS, STEM, TWO_CHAINS, WRONG_COUNTS, WRONG_LINKS)
 from .counts import by_parents, counted
@@ -20,9 +21,9 @@ from .tables import (
     some_new_tag, some_row, some_tables, swapped, table)
 
 # The calls that are lent both tables and look at them, and those that take a list.
-TABLE_LETTERS = "kfdwcWCas#"
-LIST_LETTERS = "kfdwcWCa#"
-QUESTION_LETTERS = "wcWCa#"
+TABLE_LETTERS = "kfdwcWCagGs#"
+LIST_LETTERS = "kfdwcWCagG#"
+QUESTION_LETTERS = "wcWCagG#"
 ALL_LETTERS = "e" + TABLE_LETTERS
 
 # Contents of an output before the call, so that what lies behind the answer can be seen.
@@ -50,10 +51,12 @@ LINE_COUNTS = [1, 2, 40, 127, 4000]
 ODD_LENGTHS = [1, 3, 8191]
 
 
-def some_outputs(letter, count=6):
-    """The outputs that a listing is lent: one, or two where shortfalls stand beside the tags."""
+def lent_beside(letter, count=6):
+    """What a call is lent beside its list: an output of so many places for a listing, two where
+    shortfalls stand beside the tags, and for a page a bookmark not begun."""
     return {"P": BEFORE[:count] if letter in "WCa" else [],
-            "Q": SECOND_BEFORE[:count] if letter == "a" else []}
+            "Q": SECOND_BEFORE[:count] if letter == "a" else [],
+            "K": not_begun() if letter in PAGE_LETTERS else []}
 
 
 def tag_or_most(letter, tag):
@@ -86,7 +89,7 @@ def table_lengths():
     register = parts_register(2)
     for length in SMALL_LENGTHS:
         for letter in ALL_LETTERS:
-            yield Request(letter, 7, R=register, N=[0] * length, L=[1, 1], **some_outputs(letter),
+            yield Request(letter, 7, R=register, N=[0] * length, L=[1, 1], **lent_beside(letter),
                           O=b"before the sheet", note="node table of %d words" % length)
 
 
@@ -114,7 +117,7 @@ def tables_in_order():
     for register, words, note in pairs_of_tables():
         for letter in ALL_LETTERS:
             for tag, bad in ((0, [1]), (3, [1, 0]), (4, [2, 1])):
-                yield Request(letter, tag, R=register, N=words, L=bad, **some_outputs(letter),
+                yield Request(letter, tag, R=register, N=words, L=bad, **lent_beside(letter),
                               O=b"a sheet goes here at the start of this output and more",
                               note=note)
 
@@ -122,7 +125,7 @@ def tables_in_order():
 def on_two_parts(letter, register, note):
     """A request on two kits, of one unit each of the parts 1 and 2."""
     return Request(letter, tag_or_most(letter, 77), R=register, N=table(3, ((1,), 4), ((2,), 9)),
-                   L=[2, 1], **some_outputs(letter, 3), O=bytes(60), note=note)
+                   L=[2, 1], **lent_beside(letter, 3), O=bytes(60), note=note)
 
 
 def spelled_parts():
@@ -139,7 +142,7 @@ def broken_tables():
     for note, row in BROKEN_TABLES.items():
         for letter in TABLE_LETTERS:
             yield Request(letter, 6, R=two, N=nodes.words_of(row), L=[2, 1],
-                          **some_outputs(letter), O=bytes(60), note=note)
+                          **lent_beside(letter), O=bytes(60), note=note)
 
 
 def broken_chains():
@@ -147,7 +150,7 @@ def broken_chains():
     for note, row in {"two chains": TWO_CHAINS, **LOST_NODES, **WRONG_LINKS}.items():
         for letter in TABLE_LETTERS:
             yield Request(letter, 6, R=parts_register(3), N=nodes.words_of(row), L=[1, 2],
-                          **some_outputs(letter), O=bytes(60), note=note)
+                          **lent_beside(letter), O=bytes(60), note=note)
 
 
 def wrong_counts():
@@ -155,7 +158,7 @@ def wrong_counts():
     for note, row in {"two chains": TWO_CHAINS, "a stem": STEM, **WRONG_COUNTS}.items():
         for letter in TABLE_LETTERS:
             yield Request(letter, 6, R=parts_register(3), N=nodes.words_of(row), L=[1, 2],
-                          **some_outputs(letter), O=bytes(60), note=note)
+                          **lent_beside(letter), O=bytes(60), note=note)
 
 
 def raw_paths():
@@ -165,14 +168,14 @@ def raw_paths():
         words = raw_path(row, spare=2)
         listed = words_of(lines_of(row))
         for letter in TABLE_LETTERS:
-            yield Request(letter, 9, R=five, N=words, L=listed, **some_outputs(letter),
+            yield Request(letter, 9, R=five, N=words, L=listed, **lent_beside(letter),
                           O=bytes(90), note=note)
         yield Request("k", 9, R=five, N=words, L=[5, 1], note=note)
     # Labels count against the parts registered, not against the slots.
     for parts, slots in ((0, 3), (1, 3), (2, 3), (3, 3)):
         for letter in TABLE_LETTERS:
             yield Request(letter, 9, R=parts_register(parts, slots), N=raw_path((2,)), L=[],
-                          **some_outputs(letter), O=bytes(60),
+                          **lent_beside(letter), O=bytes(60),
                           note="label 2 beside %d parts in %d slots" % (parts, slots))
 
 
@@ -182,7 +185,7 @@ def old_tables():
         words = [word for node in nodes.nodes_of(table(7, *kits)) for word in node[:-1]]
         for letter in TABLE_LETTERS:
             yield Request(letter, 6, R=parts_register(2), N=words, L=[1, 1],
-                          **some_outputs(letter), O=bytes(60),
+                          **lent_beside(letter), O=bytes(60),
                           note="7 nodes of six words, %d kits" % len(kits))
 
 
@@ -203,18 +206,18 @@ def list_limits():
     for at, listed in enumerate(lists):
         for letter in LIST_LETTERS:
             yield Request(letter, tag_or_most(letter, 100 + at), R=three, N=words, L=listed,
-                          **some_outputs(letter), note="list %s" % listed)
+                          **lent_beside(letter), note="list %s" % listed)
         yield Request("k", 0, R=three, N=words, L=listed, note="tag 0 and list %s" % listed)
     for listed in ([], [1, 1], [1, 0], [0, 0], [1]):
         for letter in LIST_LETTERS:
             yield Request(letter, 5, R=parts_register(0, 1), N=[0] * 2 * NODE_WORDS, L=listed,
-                          **some_outputs(letter), note="no parts, list %s" % listed)
+                          **lent_beside(letter), note="no parts, list %s" % listed)
     five = parts_register(5)
     for listed in (LONGEST_LIST, TOO_LONG_LIST, [1, 15, 2, 15, 3, 15, 4, 15, 5, 15]):
         held = table(70, (units(lines_of_words(LONGEST_LIST)), 12))
         for letter in LIST_LETTERS:
             for words in ([0] * NODE_WORDS, [0] * 65 * NODE_WORDS, held):
-                yield Request(letter, 12, R=five, N=words, L=listed, **some_outputs(letter),
+                yield Request(letter, 12, R=five, N=words, L=listed, **lent_beside(letter),
                               note="%s %d units" % ("insert" if letter == "k" else "ask for",
                                                     sum(listed[1::2])))
 
@@ -280,7 +283,7 @@ def deletions():
 
 
 # The calls that try each kind of short case.
-CASE_LETTERS = {WITHIN: "wWa", CONTAINING: "cC", DELETE: "d"}
+CASE_LETTERS = {WITHIN: "wWag", CONTAINING: "cCG", DELETE: "d"}
 
 
 def short_cases():
@@ -290,7 +293,7 @@ def short_cases():
         words = table(6, *((kit, tag) for tag, kit in enumerate(held, start=11)))
         for letter in CASE_LETTERS[question]:
             yield Request(letter, R=five, N=words, L=words_of(lines_of(row)),
-                          **some_outputs(letter, 3), note="%s %s of %s" % (question, row, held))
+                          **lent_beside(letter, 3), note="%s %s of %s" % (question, row, held))
     held = [((1, 2, 5), 31), ((1, 3), 32), ((2, 3), 33), ((2, 5), 34), ((3,), 35), ((3, 3), 36),
             ((1, 1, 4), 37), ((4, 5), 38), ((1, 5, 5), 39), ((), 30)]
     lists = [[], [1, 1], [2, 1], [3, 1], [3, 2], [4, 1], [5, 1], [5, 2], [1, 1, 5, 1],
@@ -300,7 +303,7 @@ def short_cases():
         words = table(30, *kits)
         for listed in lists:
             for letter in QUESTION_LETTERS:
-                yield Request(letter, 1, R=five, N=words, L=listed, **some_outputs(letter, 11),
+                yield Request(letter, 1, R=five, N=words, L=listed, **lent_beside(letter, 11),
                               note="question on %s" % listed)
 
 
@@ -324,7 +327,7 @@ def bins():
         for second in (1, 14, 15):
             for letter in QUESTION_LETTERS:
                 yield Request(letter, 1, R=two, N=words, L=[1, first, 2, second],
-                              **some_outputs(letter), note="%d and %d" % (first, second))
+                              **lent_beside(letter), note="%d and %d" % (first, second))
 
 
 def sweeps():
@@ -343,7 +346,7 @@ def swept(letters, words, listed, places, room, note):
     """The next call's request on this table beside three parts."""
     letter = next(letters)
     return Request(letter, tag_or_most(letter, 77), R=parts_register(3), N=words, L=listed,
-                   **some_outputs(letter, places), O=bytes(room), note=note)
+                   **lent_beside(letter, places), O=bytes(room), note=note)
 
 
 def with_counts_right(before, words):
@@ -407,7 +410,7 @@ def large():
     for length in LARGE_LENGTHS:
         for letter in ALL_LETTERS:
             yield Request(letter, 7, R=parts_register(2), N=[0] * length, L=[1, 2],
-                          **some_outputs(letter), O=bytes(60), note="%d words" % length)
+                          **lent_beside(letter), O=bytes(60), note="%d words" % length)
     everything = [word for place in range(1, BYTE_PLACES + 1) for word in (place, 15)]
     ones = [word for place in range(1, BYTE_PLACES + 1) for word in (place, 1)]
     lists = [[], [1, 1], [BYTE_PLACES, 1], [16, 1, 100, 1], [16, 1, 101, 1], ones, everything,
@@ -418,14 +421,14 @@ def large():
     for listed in lists:
         for letter in LIST_LETTERS:
             yield Request(letter, tag_or_most(letter, 40000), R=full, N=siblings, L=listed,
-                          P=[9] * 300, Q=[8] * 300,
+                          P=[9] * 300, Q=[8] * 300, K=not_begun(),
                           note="255 siblings, list of %d words" % len(listed))
     for kind in LARGE_KINDS:
         words = large_table(kind)
         for listed in ([], [16, 1, 100, 1], everything, LONGEST_LIST):
             for letter in LIST_LETTERS:
                 yield Request(letter, tag_or_most(letter, 40000), R=full, N=words, L=listed,
-                              P=[9] * ROOM["P"], Q=[8] * ROOM["Q"],
+                              P=[9] * ROOM["P"], Q=[8] * ROOM["Q"], K=not_begun(),
                               note="4096 nodes, %s, list of %d words" % (kind, len(listed)))
         yield Request("k", 1, R=full, N=words, L=[255, 15], note="4096 nodes, tag taken")
         yield Request("k", 60001, R=full, N=words, L=[200, 1, 255, 15], note="4096 nodes, " + kind)
@@ -449,7 +452,7 @@ def long_lists():
     for listed in chain(*map(lists_at_fault, LINE_COUNTS), *map(odd_lists, ODD_LENGTHS)):
         for letter in LIST_LETTERS:
             yield Request(letter, tag_or_most(letter, 40000), R=full, N=words, L=listed,
-                          **some_outputs(letter), note="%d words at fault" % len(listed))
+                          **lent_beside(letter), note="%d words at fault" % len(listed))
 
 
 def good_lines(count):

@@ -12,6 +12,7 @@ from second.sheet import BYTE_PLACES
 
 from .carried import empty_catalogue, expect
 from .index_requests import LONGEST_LIST, TOO_LONG_LIST
+from .page_sequences import Readers
 from .reached import EMPTY_STRUCK, ENTERED_AGAIN, LACKED_ONE_NODE, TOOK_LAST_NODE
 from .register_requests import many_numbers
 from .short_cases import DELETE, SHORT_CASES
@@ -332,10 +333,11 @@ def full_table(door):
 def bring_on(catalogue, kind):
     """Makes the calls of a sequence of this kind, and then holds the tables against them.
 
-    Behind each of them there is one that counts.
+    Behind each of them there is one that counts, and pages are turned among them.
     """
-    steps = Steps(catalogue, kind, catalogue.door.chance)
+    steps, readers = Steps(catalogue, kind, catalogue.door.chance), Readers(catalogue)
     last = catalogue.door.calls + 2 * kind.calls
     while catalogue.door.calls < last:
         steps.step()
+        readers.may_turn()
     catalogue.check_contents()

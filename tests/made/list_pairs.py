@@ -2,8 +2,9 @@
 
 A list's check and its units show where it is inserted; its quantities by what kits lack beside it;
 how two rows stand to each other by what one adds to the other, by whether one begins the other, by
-the sheet of both and by reading the two as records; inclusion by the questions. An empty list is
-refused where it is inserted, and as a kit held it is passed over.
+whether a page shows one behind the other, by the sheet of both and by reading the two as records;
+inclusion by the questions. An empty list is refused where it is inserted, and as a kit held it is
+passed over.
 """
 
 from functools import lru_cache
@@ -18,6 +19,7 @@ from second.refusals import BAD_ORDER, BEYOND_PARTS
 from second.register import MOST_SLOTS
 from second.sheet import BYTE_PLACES, version_for
 
+from .bookmarks import begun_at
 from .many_parts import AROUND_BYTE, AROUND_MOST, EDGE_PLACES
 from .many_ways import BEHIND
 from .reached import BEYOND, BY_CHANCE, GOOD, GOOD_PLACE, ON_LINE, PAIR
@@ -208,9 +210,9 @@ def bins(parts, listed):
 def beside(parts, held, other):
     """A list held as a kit: whether it is within the other, contains it or begins with it.
 
-    And what the other adds to it.
+    And what the other adds to it, and whether a page behind the other shows it.
     """
-    row = units(held)
+    row, behind = units(held), units(other)
     if len(row) > MOST_UNITS:
         return
     lent = {"R": registered(parts), "N": table(TWO_KITS_NODES, (row, TAGS[0])),
@@ -219,6 +221,8 @@ def beside(parts, held, other):
     yield Request("C", P=[0], **lent)
     yield Request("#", **lent)
     yield Request("k", TAGS[1], **lent)
+    if len(behind) <= MOST_UNITS:
+        yield Request("G", **{**lent, "L": [], "K": begun_at(behind)})
 
 
 def sheets(parts, *both):

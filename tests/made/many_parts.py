@@ -12,6 +12,7 @@ from second.register import (
     LONGEST_NUMBER, MOST_SLOTS, NUMBER_BYTES, SLOT_BYTES, filled, slot_for)
 from second.sheet import BYTE_PLACES
 
+from .bookmarks import not_begun
 from .index_requests import ALL_LETTERS, LIST_LETTERS, tag_or_most
 from .register_requests import many_numbers, shortest_numbers
 from .tables import parts_register, table
@@ -74,7 +75,7 @@ def register_lengths():
         for letter in "pkr" if length in OTHER_LENGTHS else "plnr" + ALL_LETTERS:
             yield Request(letter, 2, R=filled([b"A", b"B"], 2) + bytes(length - 2 * SLOT_BYTES),
                           N=[0] * 2 * NODE_WORDS, L=[2, 1], I=b"C" if letter == "p" else b"B",
-                          O=bytes(20), note="register of %d bytes" % length)
+                          O=bytes(20), K=not_begun(), note="register of %d bytes" % length)
 
 
 def full_registers():
@@ -215,7 +216,7 @@ def edge_places():
         lists = lists[:6] if parts == MOST_SLOTS - 1 else lists
         for listed, letter in product(lists, LIST_LETTERS):
             yield Request(letter, tag_or_most(letter, 40000), R=register, N=words, L=listed,
-                          P=FIRST_OUTPUT, Q=SECOND_OUTPUT,
+                          P=FIRST_OUTPUT, Q=SECOND_OUTPUT, K=not_begun(),
                           note="list %s beside %d parts" % (listed, parts))
     # A label just beyond the parts, which the slots would have room for.
     for label in (BYTE_PLACES + 1, MOST_SLOTS):
@@ -223,7 +224,7 @@ def edge_places():
         for parts, letter in product((label - 1, label), LIST_LETTERS + "s"):
             yield Request(letter, tag_or_most(letter, 8), R=parts_register(parts, label), N=words,
                           L=[label - 1, 1], P=FIRST_OUTPUT, Q=SECOND_OUTPUT, O=bytes(24100),
-                          note="label %d beside %d parts" % (label, parts))
+                          K=not_begun(), note="label %d beside %d parts" % (label, parts))
 
 
 def long_lists():
@@ -235,7 +236,7 @@ def long_lists():
                    last + [MOST_SLOTS - 1, 1], last + [MOST_SLOTS + 1, 1], good[:-1], every[:-1]):
         for letter in LIST_LETTERS:
             yield Request(letter, tag_or_most(letter, 40000), R=full, N=words, L=listed,
-                          P=FIRST_OUTPUT, Q=SECOND_OUTPUT,
+                          P=FIRST_OUTPUT, Q=SECOND_OUTPUT, K=not_begun(),
                           note="%d words beside 4,000 parts" % len(listed))
 
 
@@ -256,12 +257,12 @@ def all_siblings():
     """All parts on one chain, in a table with no free node: every call goes along all of it."""
     full, words = parts_register(MOST_SLOTS, MOST_SLOTS), sibling_words()
     every = [word for place in range(1, MOST_SLOTS + 1) for word in (place, MOST_QUANTITY)]
-    outputs = {"P": [9] * ROOM["P"], "Q": [8] * ROOM["Q"]}
+    lent = {"P": [9] * ROOM["P"], "Q": [8] * ROOM["Q"], "K": not_begun()}
     for listed in ([], [MOST_SLOTS, 1], [1, 1, MOST_SLOTS, 1], every):
         for letter in LIST_LETTERS:
-            yield Request(letter, tag_or_most(letter, 40000), R=full, N=words, L=listed, **outputs,
+            yield Request(letter, tag_or_most(letter, 40000), R=full, N=words, L=listed, **lent,
                           note="4,000 siblings, list of %d words" % len(listed))
-    yield Request("a", 64, R=full, N=words, **outputs, note="4,000 siblings, d 64")
+    yield Request("a", 64, R=full, N=words, **lent, note="4,000 siblings, d 64")
     yield Request("k", 40000, R=full, N=words, L=[MOST_SLOTS, 2], note="4,000 siblings, no node")
     yield Request("e", R=full, N=words, note="4,000 siblings emptied")
     for room in (0, ROOM["O"]):

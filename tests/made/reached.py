@@ -11,16 +11,17 @@ from itertools import product
 from second.desk import (
     CALL_LETTERS, LIST_LETTERS, LONGEST_LINE, NODES, OTHER_LINE, SHEET_BYTES, SLOTS, SPACE)
 from second.refusals import (
-    ALREADY_HELD, BAD_NUMBER, BAD_ORDER, BAD_QUANTITY, DONE, EMPTY_KIT, NO_ROOM, NOT_HELD,
-    NOT_SOUND, PUNCTUATION_AT_END, SHEET_AT_FAULT, TAG_TAKEN, TAG_ZERO, TOO_FAR_SHORT,
-    TOO_MANY_UNITS, WRONG_LENGTH)
+    ALREADY_HELD, BAD_NUMBER, BAD_ORDER, BAD_QUANTITY, BOOKMARK_AT_FAULT, DONE, EMPTY_KIT, LIST,
+    NO_ROOM, NOT_HELD, NOT_SOUND, PUNCTUATION_AT_END, SHEET_AT_FAULT, TAG_TAKEN, TAG_ZERO,
+    TOO_FAR_SHORT, TOO_MANY_UNITS, WRONG_LENGTH)
 
+from .bookmarks import PAGE_LETTERS
 from .many_parts import EDGE_PLACES
 from .many_ways import BEHIND, WIDE_CUT, sizes_read
 from .sheet_requests import PRINTED_SHEET
 from .undone_ways import names_at_once
 from .version_requests import SMALLEST
-from .ways import ALL_WAYS, CUT_SHORT, LEFT_TO_LIMITS, LIST, names_of, sheet_read
+from .ways import ALL_WAYS, CUT_SHORT, LEFT_TO_LIMITS, names_of, sheet_read
 
 ANSWER = "answer %d"
 
@@ -87,6 +88,8 @@ NUMBERS = {
     "W": TABLES | LIST | {NO_ROOM},
     "C": TABLES | LIST | {NO_ROOM},
     "a": TABLES | LIST | {NO_ROOM, TOO_FAR_SHORT},
+    "g": TABLES | LIST | {BOOKMARK_AT_FAULT},
+    "G": TABLES | LIST | {BOOKMARK_AT_FAULT},
     "#": TABLES | LIST,
     "s": TABLES | {NO_ROOM},
     "r": {DONE, WRONG_LENGTH, NO_ROOM, SHEET_AT_FAULT},
@@ -197,6 +200,21 @@ COUNTED = {"none": "counts of no kit", "one": "counts of one kit",
            "several": "counts of several kits and not all", "all": "counts of all kits by a list"}
 COUNTED_BEHIND = {**{letter: "kits counted behind an accepted " + letter for letter in "epkdr"},
                   None: "kits counted behind a refusal"}
+PAGED_ON = "pages were turned between other calls"
+PAGED_TO_END = {letter: "listings were paged to their end by %s, and once more" % letter
+                for letter in PAGE_LETTERS}
+PAGED_AMID = {letter: "listings were paged to their end by %s while kits came and went" % letter
+              for letter in PAGE_LETTERS}
+PAGED_FULL = {letter: "listings of 4,096 nodes were paged to their end by " + letter
+              for letter in PAGE_LETTERS}
+PAGED_FAR = {letter: "listings of 4,095 pages were paged to their end by " + letter
+             for letter in PAGE_LETTERS}
+# Where a kit is struck out or entered between two pages, from the bookmark's row.
+BEFORE_ROW, AT_ROW, BEHIND_ROW = "before the bookmark", "at the bookmark", "behind the bookmark"
+CHANGED = {(letter, where): "kits were %s %s" % (what, where)
+           for letter, what in (("d", "struck out"), ("k", "entered"))
+           for where in (BEFORE_ROW, AT_ROW, BEHIND_ROW)}
+CHANGED_FULL = {way: what + " in a table of 4,096 nodes" for way, what in CHANGED.items()}
 VERSIONS_WRITTEN = {1: "sheets of version 1 written and read again",
                     2: "sheets of version 2 written and read again"}
 ALL_SLOTS_TAKEN = "catalogues of 4,000 parts were carried on"
@@ -215,7 +233,9 @@ def sequences_reached():
     turns = {TOOK_LAST_NODE, LACKED_ONE_NODE, ENTERED_AGAIN, AT_OTHER_NODES, ALMOST_FILLED,
              BROUGHT_IN, ENDED_ALIKE, ENDED_APART, ALL_SLOTS_TAKEN, EMPTY_STRUCK,
              OLD_TABLES_WRITTEN, OLD_SHEETS_READ, OLD_SHEETS_WRITTEN, *VERSIONS_WRITTEN.values(),
-             *COUNTED.values(), *COUNTED_BEHIND.values(), *names_at_once()}
+             *COUNTED.values(), *COUNTED_BEHIND.values(), *names_at_once(), PAGED_ON,
+             *PAGED_TO_END.values(), *PAGED_AMID.values(), *PAGED_FULL.values(),
+             *PAGED_FAR.values(), *CHANGED.values(), *CHANGED_FULL.values()}
     return Reached(answers(numbers) | {(SEQUENCES, turn) for turn in turns})
 
 

@@ -4,8 +4,9 @@ from run.frame import COUNT, REQUEST_HEAD, ROOM, element_bytes, pack_request
 from second.lent import REQUEST_BLOCKS, WORD_BLOCKS, Request
 
 from . import (
-    almost_requests, count_requests, empty_requests, index_requests, many_parts, register_requests,
-    sheet_requests, version_requests)
+    almost_requests, count_requests, empty_requests, index_requests, many_parts, page_requests,
+    register_requests, sheet_requests, version_requests)
+from .bookmarks import NO_BOOKMARKS, PAGE_LETTERS, not_begun
 from .chance import Chance
 
 # Who makes the requests of each letter by chance. Each maker's fixed requests are its limits
@@ -14,6 +15,7 @@ MAKERS = [
     ("pln", register_requests),
     ("ekfdwcWC", index_requests),
     ("a", almost_requests),
+    ("gG", page_requests),
     ("#", count_requests),
     ("sr", sheet_requests),
 ]
@@ -23,14 +25,15 @@ FIXED_MAKERS = [many_parts, version_requests, empty_requests]
 # The blocks that each call uses; it must leave the others as they are.
 USES = {
     "e": "RN", "p": "RI", "l": "RI", "n": "RO", "k": "RNL", "f": "RNL", "d": "RNL", "w": "RNL",
-    "c": "RNL", "W": "RNLP", "C": "RNLP", "a": "RNLPQ", "#": "RNL", "s": "RNO", "r": "RNI",
+    "c": "RNL", "W": "RNLP", "C": "RNLP", "a": "RNLPQ", "g": "RNLK", "G": "RNLK", "#": "RNL",
+    "s": "RNO", "r": "RNI",
 }
 
 # The calls that use argument A; none uses B yet.
 USES_A = "nka"
 
 # The calls with the most ways to go wrong are made more often.
-OFTEN = "kdWCar"
+OFTEN = "kdWCagGr"
 
 # Bytes outside the printable ones, tried as letters.
 OTHER_LETTERS = bytes([0, 1, 10, 13, 31, 127, 128, 255])
@@ -114,6 +117,9 @@ def broken(letters):
         for count in (ROOM[name] + 1, 65536 + 1, 1 << 31, (1 << 32) - 1):
             if count > ROOM[name]:
                 yield good + oversize(letters[0], name, count) + good
+    for letter in PAGE_LETTERS:
+        for words in NO_BOOKMARKS if letter in letters else []:
+            yield good + pack_request(Request(letter, R=bytes(64), K=words)) + good
 
 
 def oversize(letter, name, count):
@@ -127,9 +133,14 @@ def oversize(letter, name, count):
 
 
 def roomiest(letters):
-    """A request for each letter with one block as large as its room, for each block."""
+    """A request for each letter with one block as large as its room, for each block.
+
+    A bookmark is always as large, and says whether paging has begun.
+    """
     for letter in letters:
         for name in REQUEST_BLOCKS:
             element = [0xA55A] if name in WORD_BLOCKS else b"\xa5"
-            yield Request(letter, note="block %s as large as its room" % name,
-                          **{name: element * ROOM[name]})
+            lent = {name: element * ROOM[name]}
+            if letter in PAGE_LETTERS:
+                lent["K"] = not_begun()
+            yield Request(letter, note="block %s as large as its room" % name, **lent)

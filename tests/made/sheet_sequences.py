@@ -12,8 +12,10 @@ from second.refusals import ALREADY_HELD, DONE, NOT_HELD, PUNCTUATION_AT_END
 from second.register import MOST_SLOTS, SLOT_BYTES, punctuation_at_end
 
 from .almost_requests import some_question
+from .bookmarks import not_begun, some_bookmark
 from .carried import Catalogue, Contents, empty_catalogue, expect
 from .index_requests import QUESTION_LETTERS, some_list, some_room, some_tag
+from .page_sequences import page_through, turn_stray
 from .reached import ALMOST_FILLED, BROUGHT_IN, ENDED_ALIKE, ENDED_APART, OLD_SHEETS_READ
 from .register_requests import ALIKE
 from .sheet_requests import old_sheet
@@ -168,6 +170,8 @@ class Walk:
         self.catalogue = catalogue
         self.chance = catalogue.door.chance
         self.aim = aim
+        # The list and the bookmark of the last page of each kind.
+        self.pages = {}
 
     def contents(self):
         """What is held, by calls and replies."""
@@ -231,6 +235,16 @@ class Walk:
         came = self.catalogue.call(letter, d, **lent)
         lacking = came.blocks["Q"][:came.value] if came.done() else []
         self.catalogue.came_to(ALMOST_FILLED, any(lacking))
+
+    def turn_page(self, letter):
+        """The next page of a listing, whatever was called since the last one; or of another."""
+        listed, bookmark = self.pages.pop(letter, (None, None))
+        if bookmark is None or self.chance.one_in(4):
+            listed = self.some_list()
+            bookmark = some_bookmark(self.chance, self.contents().kits, self.parts())
+        bookmark = turn_stray(self.catalogue, letter, listed, bookmark)
+        if bookmark is not None:
+            self.pages[letter] = listed, bookmark
 
     def some_list(self):
         """A list near what is held, sometimes at fault."""
@@ -310,12 +324,12 @@ class Walk:
 
 
 # The letters of a stray call, and how each is made.
-STRAY_LETTERS = "pppplnkkkkkkkkffdddwcWCaa#srr" * 2 + "e"
+STRAY_LETTERS = "pppplnkkkkkkkkffdddwcWCaaggGG#srr" * 2 + "e"
 WAYS = {
     "e": Walk.empty, "p": Walk.register, "l": Walk.look_up, "n": Walk.show, "k": Walk.insert,
     "f": Walk.take_list, "d": Walk.take_list, "w": Walk.question, "c": Walk.question,
-    "W": Walk.question, "C": Walk.question, "a": Walk.almost_filled, "#": Walk.take_list,
-    "s": Walk.write, "r": Walk.read,
+    "W": Walk.question, "C": Walk.question, "a": Walk.almost_filled, "g": Walk.turn_page,
+    "G": Walk.turn_page, "#": Walk.take_list, "s": Walk.write, "r": Walk.read,
 }
 
 
@@ -339,6 +353,7 @@ def brought_to(door, size, aim):
     ask_for_parts(catalogue)
     list_all(catalogue)
     count_all(catalogue)
+    page_through(catalogue, "G", (), not_begun())
     return catalogue
 
 

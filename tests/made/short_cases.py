@@ -85,3 +85,46 @@ COUNT_CASES = [
     ([(), (1, 2, 3), (2,), (2, 3)], (), 3),
     ([(), (1, 2, 3), (2,), (2, 3)], (1, 2, 3), 1),
 ]
+
+# Pages, worked out by hand: the kits held, the question, its list's units, the row that a bookmark
+# is begun at (None where it is not begun), and the kit shown (None where none is left).
+FOUR_HELD = [(1, 2, 5), (1, 3), (2,), (2, 3)]
+PAGE_CASES = [
+    ([], WITHIN, (1,), None, None),
+    ([], CONTAINING, (), (), None),
+    # an empty kit is passed over, and a bookmark may be begun at its row
+    ([()], WITHIN, (), None, None),
+    ([()], CONTAINING, (), None, None),
+    ([()], CONTAINING, (), (), None),
+    ([(), (1,)], CONTAINING, (), None, (1,)),
+    ([(), (1,)], WITHIN, (1,), (), (1,)),
+    ([(1,), (1, 1)], WITHIN, (1,), None, (1,)),
+    ([(1,), (1, 1)], WITHIN, (1,), (1,), None),
+    ([(1,), (1, 1)], CONTAINING, (1,), (1,), (1, 1)),
+    ([(1,), (1, 1)], CONTAINING, (1,), (1, 1), None),
+    # the row is not held: before, between and behind the kits
+    ([(1, 2), (3,)], CONTAINING, (), (1,), (1, 2)),
+    ([(1, 2), (3,)], CONTAINING, (), (1, 1), (1, 2)),
+    ([(1, 2), (3,)], CONTAINING, (), (1, 1, 5), (1, 2)),
+    ([(1, 2), (3,)], CONTAINING, (), (1, 2, 2), (3,)),
+    ([(1, 2), (3,)], CONTAINING, (), (1, 3), (3,)),
+    ([(1, 2), (3,)], CONTAINING, (), (2,), (3,)),
+    ([(1, 2), (3,)], CONTAINING, (), (3, 3), None),
+    ([(1, 2), (3,)], CONTAINING, (), (5,), None),
+    # what does not answer is passed over, and the row need not answer
+    (FOUR_HELD, WITHIN, (1, 2, 3), None, (1, 3)),
+    (FOUR_HELD, WITHIN, (1, 2, 3), (1,), (1, 3)),
+    (FOUR_HELD, WITHIN, (1, 2, 3), (1, 2, 4), (1, 3)),
+    (FOUR_HELD, WITHIN, (1, 2, 3), (1, 2, 5), (1, 3)),
+    (FOUR_HELD, WITHIN, (1, 2, 3), (1, 3), (2,)),
+    (FOUR_HELD, WITHIN, (1, 2, 3), (2,), (2, 3)),
+    (FOUR_HELD, WITHIN, (1, 2), (1, 1), (2,)),
+    (FOUR_HELD, WITHIN, (1, 2), (2,), None),
+    (FOUR_HELD, CONTAINING, (3,), None, (1, 3)),
+    (FOUR_HELD, CONTAINING, (3,), (1, 3), (2, 3)),
+    (FOUR_HELD, CONTAINING, (3,), (2,), (2, 3)),
+    (FOUR_HELD, CONTAINING, (3,), (2, 3), None),
+    (FOUR_HELD, CONTAINING, (2,), (1, 2, 5), (2,)),
+    (FOUR_HELD, CONTAINING, (5,), (1, 2), (1, 2, 5)),
+    (FOUR_HELD, CONTAINING, (5,), (1, 2, 5), None),
+]

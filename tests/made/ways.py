@@ -11,7 +11,7 @@ from second.kits import (
 from second.lent import Answer, Request
 from second.nodes import FREE, MOST_NODES, NODE_WORDS, NONE, ROOT
 from second.refusals import (
-    BAD_NUMBER, BAD_ORDER, BAD_QUANTITY, BEYOND_PARTS, DONE, NO_ROOM, NOT_HELD, NOT_SOUND,
+    BAD_NUMBER, BAD_ORDER, BAD_QUANTITY, DONE, LIST, NO_ROOM, NOT_HELD, NOT_SOUND,
     PUNCTUATION_AT_END, SHEET_AT_FAULT, TAG_ZERO, TOO_FAR_SHORT, TOO_MANY_UNITS, WRONG_LENGTH)
 from second.register import LONGEST_NUMBER, PUNCTUATION, SLOT_BYTES
 
@@ -22,11 +22,9 @@ from .many_ways import (
     BY_CHANCE_TOO, PART_COUNT_AT, hashes_lent, hashes_read, last_of_all, parts_lent, places_listed,
     places_shown, places_told, sizes_read, sizes_written, slots_lent, versions_read,
     versions_written)
+from .page_ways import PAGE_WAYS, RARE_PAGES, passed_by_pages
 from .register_requests import BESIDE_LETTERS
 from .sheet_requests import PRINTED_SHEET
-
-# What is wrong with a list.
-LIST = {BAD_ORDER, BEYOND_PARTS, BAD_QUANTITY}
 
 # The printed sheet must be cut at every byte.
 CUT_SHORT = "the printed sheet cut short"
@@ -373,8 +371,9 @@ def names_of(row):
 # The limits of documents 01 and 02, as ways of each call.
 BOTH_TABLES = [tables_lent, wrong_counts]
 AND_LIST = [*BOTH_TABLES, list_given]
-# An empty kit would answer w, W and a by every list, and c, C and # by the empty list alone.
+# An empty kit would answer w, W, a and g by every list, and c, C, G and # by the empty list alone.
 OVER, OVER_BY_EMPTY = passed_over(True), passed_over(False)
+PAGE_OVER, PAGE_OVER_BY_EMPTY = passed_by_pages(True), passed_by_pages(False)
 NO_PLACE = exact_room("P")
 LIMITS = {
     "e": [emptied, replaced], "p": [number_given, letters_given, registered, ends_refused],
@@ -384,7 +383,8 @@ LIMITS = {
     "w": [*AND_LIST, first_found, OVER], "c": [*AND_LIST, first_found, OVER_BY_EMPTY],
     "W": [*AND_LIST, output_into("P"), OVER, NO_PLACE],
     "C": [*AND_LIST, output_into("P"), OVER_BY_EMPTY, NO_PLACE],
-    "a": [*AND_LIST, almost_filled, OVER, NO_PLACE], "#": [*AND_LIST, kits_counted, OVER_BY_EMPTY],
+    "a": [*AND_LIST, almost_filled, OVER, NO_PLACE], "g": [*AND_LIST, *PAGE_WAYS, PAGE_OVER],
+    "G": [*AND_LIST, *PAGE_WAYS, PAGE_OVER_BY_EMPTY], "#": [*AND_LIST, kits_counted, OVER_BY_EMPTY],
     "s": [*BOTH_TABLES, output_into("O"), versions_written, left_out],
     "r": [sheet_read, numbers_read, versions_read, replaced, dropped],
 }
@@ -402,7 +402,8 @@ ALL_WAYS = {letter: ways + [large for way in ways for large in LARGE.get(way, []
 STORED_WAYS = {
     "e": [emptied, replaced], "k": [empty_refused], "f": [empty_found], "d": [empty_found],
     "w": [OVER], "c": [OVER_BY_EMPTY], "W": [OVER, NO_PLACE], "C": [OVER_BY_EMPTY, NO_PLACE],
-    "a": [almost_filled, OVER, NO_PLACE], "#": [wrong_counts, kits_counted, OVER_BY_EMPTY],
+    "a": [almost_filled, OVER, NO_PLACE], "g": [*PAGE_WAYS, PAGE_OVER],
+    "G": [*PAGE_WAYS, PAGE_OVER_BY_EMPTY], "#": [wrong_counts, kits_counted, OVER_BY_EMPTY],
     "s": [versions_written, left_out], "r": [versions_read, replaced, dropped],
 }
 # Ways that requests by chance hardly ever go: registers are small there.
@@ -415,6 +416,6 @@ LEFT_TO_LIMITS = {
     "d 64 done", "d 65,535 refused", "line 40 at fault", "line 127 at fault",
     "line 256 of 4,000 at fault", "two lines at fault, and the first is said",
     "an odd list of 8,191 numbers", "an odd list with a line at fault before",
-    "64 units counted", "64 units that no kit has", "65 units",
+    "64 units counted", "64 units that no kit has", "65 units", *RARE_PAGES,
     *names_of(OF_MANY_PARTS) - BY_CHANCE_TOO, TWICE,
 }

@@ -1,8 +1,11 @@
 """The second program behind the probe's door: all the answers to a stream of requests."""
 
-from second import calls
+from second import calls, paging
 
 from . import frame
+
+# The letters whose block K is a bookmark.
+TURNING = "gG"
 
 
 def known_letters(text):
@@ -13,7 +16,10 @@ def known_letters(text):
 
 
 def answer_stream(data, letters=calls.LETTERS):
-    """All that the probe writes when this is its whole input."""
+    """All that the probe writes when this is its whole input.
+
+    To turn a page of what is no bookmark is a request that cannot be read.
+    """
     written = []
     offset = 0
     while offset < len(data):
@@ -21,6 +27,8 @@ def answer_stream(data, letters=calls.LETTERS):
             if data[offset:offset + 1].decode("latin-1") not in letters:
                 raise frame.Broken("unknown letter")
             request, offset = frame.unpack_request(data, offset)
+            if request.letter in TURNING and not paging.is_bookmark(request.blocks["K"]):
+                raise frame.Broken("no bookmark in block K")
         except frame.Broken:
             written.append(frame.BROKEN_ANSWER)
             break

@@ -1,10 +1,11 @@
 """The answer to a request: every call with its refusals in the order of documents 01 and 02."""
 
-from . import index, kits, nodes, questions, register, sheet
+from . import index, kits, nodes, paging, questions, register, sheet
 from .lent import ANSWER_BLOCKS, Answer
 from .refusals import (
-    ALREADY_HELD, BAD_NUMBER, DONE, EMPTY_KIT, NO_ROOM, NOT_HELD, NOT_SOUND, PUNCTUATION_AT_END,
-    SHEET_AT_FAULT, TAG_TAKEN, TAG_ZERO, TOO_FAR_SHORT, TOO_MANY_UNITS, WRONG_LENGTH, Refusal)
+    ALREADY_HELD, BAD_NUMBER, BOOKMARK_AT_FAULT, DONE, EMPTY_KIT, NO_ROOM, NOT_HELD, NOT_SOUND,
+    PUNCTUATION_AT_END, SHEET_AT_FAULT, TAG_TAKEN, TAG_ZERO, TOO_FAR_SHORT, TOO_MANY_UNITS,
+    WRONG_LENGTH, Refusal)
 
 # "a number d from 0 to 64"
 MOST_SHORT = 64
@@ -199,6 +200,34 @@ def almost_filled(request):
                         "Q": at_start(lent["Q"], [lacking for _, lacking in found])}
 
 
+def turned_page(request, question):
+    """A step from the lent bookmark: the tag of the kit that it shows, "or 0 when none is left".
+
+    15 comes "after the list checks". Where none is left "the bookmark stays where it was".
+    """
+    lent = request.blocks
+    parts = check_tables(lent)
+    row = kits.units(kits.checked_lines(lent["L"], parts))
+    bookmark = paging.bookmark_of(lent["K"])
+    if paging.at_fault(bookmark, parts):
+        raise Refusal(BOOKMARK_AT_FAULT)
+    found = paging.shown(question(nodes.held_kits(lent["N"]), row), bookmark)
+    if found is None:
+        return 0, {}
+    kit, tag = found
+    return tag, {"K": paging.words_at(kit)}
+
+
+def page_within(request):
+    """The next page of the kits within the bin."""
+    return turned_page(request, questions.kits_within)
+
+
+def page_containing(request):
+    """The next page of the kits containing the list."""
+    return turned_page(request, questions.kits_containing)
+
+
 def count_kits(request):
     """How many kits begin with a list: "the count for a list's units as a beginning"."""
     lent = request.blocks
@@ -253,6 +282,8 @@ CALLS = {
     "W": all_within,
     "C": all_containing,
     "a": almost_filled,
+    "g": page_within,
+    "G": page_containing,
     "#": count_kits,
     "s": write_sheet,
     "r": read_sheet,

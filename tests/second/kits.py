@@ -100,7 +100,7 @@ def listing_order(held):
 
 
 def with_units(held):
-    """The held kits but the empty one: "Listings, .. any-kit answers and counts pass over it"."""
+    """All but the empty kit: "Listings, pages, any-kit answers and counts pass over it"."""
     return {row: tag for row, tag in held.items() if row}
 
 

@@ -11,16 +11,26 @@ def listed(held):
     return listing_order(with_units(held))
 
 
+def kits_within(held, row):
+    """All kits within this bin, with their tags, in listing order."""
+    have = quantities(row)
+    return [(kit, tag) for kit, tag in listed(held) if included(quantities(kit), have)]
+
+
+def kits_containing(held, row):
+    """All kits that contain this list, with their tags, in listing order."""
+    need = quantities(row)
+    return [(kit, tag) for kit, tag in listed(held) if included(need, quantities(kit))]
+
+
 def within(held, row):
     """The tags of all kits within this bin, in listing order."""
-    have = quantities(row)
-    return [tag for kit, tag in listed(held) if included(quantities(kit), have)]
+    return [tag for _, tag in kits_within(held, row)]
 
 
 def containing(held, row):
     """The tags of all kits that contain this list, in listing order."""
-    need = quantities(row)
-    return [tag for kit, tag in listed(held) if included(need, quantities(kit))]
+    return [tag for _, tag in kits_containing(held, row)]
 
 
 def almost_filled(held, row, most):

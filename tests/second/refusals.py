@@ -16,10 +16,15 @@ NO_ROOM = 12
 SHEET_AT_FAULT = 13
 # Request 1: "new 14, d above 64".
 TOO_FAR_SHORT = 14
+# Request 4: "new 15, a begun bookmark whose row is longer than 64, falls somewhere, ..".
+BOOKMARK_AT_FAULT = 15
 # Request 6: "new 16, on registration only, after 3 and before 9".
 PUNCTUATION_AT_END = 16
 # Request 14: "new 19, on inserting it .., after 7 and before 9".
 EMPTY_KIT = 19
+
+# What is wrong with a list.
+LIST = {BAD_ORDER, BEYOND_PARTS, BAD_QUANTITY}
 
 
 class Refusal(Exception):

@@ -10,6 +10,10 @@ use Rattle.answers.specs.declared.Answer.{Answer}
 use Rattle.answers.specs.declared.Answer.the-variants as v
 use Rattle.answers.specs.Answers.{reply}
 
+-- what is read from the reply of an answer, where a match has named its case
+pub case-says : {A : Type 0} (f : Reply → A) {a b : Answer} → a ≡ b → f (reply b) ≡ f (reply a)
+case-says f e = sym (ap (λ a. f (reply a)) e)
+
 pub done-or-refused : (a : Answer) →
     (reply a ≡ done (valueOf (reply a))) ⊎ ((0 < numberOf (reply a)) × (reply a ≡ refused (numberOf (reply a)) (valueOf (reply a))))
 done-or-refused (v.Done x) = inl refl
@@ -27,10 +31,11 @@ done-or-refused v.NotHeld = inr (omega arith, refl)
 done-or-refused (v.NoRoom x) = inr (omega arith, refl)
 done-or-refused (v.Fault x) = inr (omega arith, refl)
 done-or-refused v.TooFar = inr (omega arith, refl)
+done-or-refused v.BadBookmark = inr (omega arith, refl)
 done-or-refused v.Punctuated = inr (omega arith, refl)
 done-or-refused v.NoUnits = inr (omega arith, refl)
 
--- the answers in the order of their numbers, each with the value x where it carries one; no answer has the number 15, 17 or 18, and
+-- the answers in the order of their numbers, each with the value x where it carries one; no answer has the number 17 or 18, and
 -- `TooFar` stands there
 inOrder : ℕ → List Answer
 inOrder x =
@@ -49,7 +54,7 @@ inOrder x =
     ∷ v.NoRoom x
     ∷ v.Fault x
     ∷ v.TooFar
-    ∷ v.TooFar
+    ∷ v.BadBookmark
     ∷ v.Punctuated
     ∷ v.TooFar
     ∷ v.TooFar
@@ -76,6 +81,7 @@ answer-back v.NotHeld = refl
 answer-back (v.NoRoom x) = refl
 answer-back (v.Fault x) = refl
 answer-back v.TooFar = refl
+answer-back v.BadBookmark = refl
 answer-back v.Punctuated = refl
 answer-back v.NoUnits = refl
 

@@ -20,5 +20,6 @@ reply v.NotHeld = refused 11 0
 reply (v.NoRoom x) = refused 12 x
 reply (v.Fault x) = refused 13 x
 reply v.TooFar = refused 14 0
+reply v.BadBookmark = refused 15 0
 reply v.Punctuated = refused 16 0
 reply v.NoUnits = refused 19 0

@@ -29,6 +29,8 @@ pub enum Answer {
     Fault(usize),
     // kits asked for that lack more than 64 units
     TooFar,
+    // a bookmark at fault
+    BadBookmark,
     // a number to register with punctuation at an end
     Punctuated,
     // a kit to insert without a unit
@@ -54,6 +56,7 @@ pub fn refused(a: Answer) -> bool
         Answer::NoRoom(_) => true,
         Answer::Fault(_) => true,
         Answer::TooFar => true,
+        Answer::BadBookmark => true,
         Answer::Punctuated => true,
         Answer::NoUnits => true,
     }
@@ -89,6 +92,8 @@ const FAULT: u8 = 13;
 
 const TOO_FAR: u8 = 14;
 
+const BAD_BOOKMARK: u8 = 15;
+
 const PUNCTUATED: u8 = 16;
 
 const NO_UNITS: u8 = 19;
@@ -119,6 +124,7 @@ fn number_of(a: Answer) -> u8
         Answer::NoRoom(_) => NO_ROOM,
         Answer::Fault(_) => FAULT,
         Answer::TooFar => TOO_FAR,
+        Answer::BadBookmark => BAD_BOOKMARK,
         Answer::Punctuated => PUNCTUATED,
         Answer::NoUnits => NO_UNITS,
     }
@@ -144,6 +150,7 @@ fn value_of(a: Answer) -> usize
         Answer::NoRoom(v) => v,
         Answer::Fault(v) => v,
         Answer::TooFar => 0,
+        Answer::BadBookmark => 0,
         Answer::Punctuated => 0,
         Answer::NoUnits => 0,
     }

@@ -21,6 +21,7 @@ use Rattle.index_delete.specs.Strike.{prune, strikeAt, strike}
 use Rattle.index.specs.Index.{entryRefusals, missingRefusals}
 use Rattle.questions.specs.Questions.{isWithin, isContaining, fitting, allOf, anyOf}
 use Rattle.shortfalls.specs.Shortfalls.{sumOver, lacking, shortfall, shortOf, isAlmost, shortsOf}
+use Rattle.pages.specs.Pages.{neverFalls, isPlace, fewIn, goodUnits, goodBookmark, rowShown, comesAfter, following, movedOn, turnPage}
 use Rattle.sheet.specs.Bytes.{inBytes, valueFrom}
 use Rattle.sheet.specs.Sheet.{version, encodeAs, encode, numberItem, numberItems, lineItems, recordItem, recordItems}
 use Rattle.sheet.specs.Reading.{onward, one, bytes, anyTwo, isVersion, goodPartCount, numberSize, newNumber, numbers, recordSize}
@@ -29,7 +30,7 @@ use Rattle.sheet.specs.Reading.{isFault, offset, said}
 use Rattle.sheet.specs.Calls.{roomRefusals, sheetRefusals}
 use Rattle.sheet_read.specs.Filling.{filling}
 use Rattle.tables.specs.Lent.{lengths, lentBoth, lentList}
-use Rattle.catalogue.specs.Calls.{planOf, inserting, deleting, allKits, almostKits, anyKit, writing, emptying, finding, reading, counting}
+use Rattle.catalogue.specs.Calls.{planOf, inserting, deleting, allKits, almostKits, anyKit, writing, emptying, finding, reading, counting, turning}
 use Rattle.demands.specs.Model.{run, begun, tablesOf, log}
 
 unfoldable pub opened : Bool
@@ -41,7 +42,8 @@ unfolding allb anyb every keep distinct concat eqList from firstOr laid decide a
     childGood nextGood onChain endTagged tagsDiffer tallyGood usedOthers nodesSound putKit inOrder tagIn tagsOf kitAt held someUnit listed firstTag beginnings
     addNew allBeginnings beginsWith countBeginning hasLabel childWith lastBelow linkTo link unlink nodeOf lowestFree enterBelow enter recount lacks
     enterAll prune strikeAt strike
-    entryRefusals missingRefusals isWithin isContaining fitting allOf anyOf sumOver lacking shortfall shortOf isAlmost shortsOf inBytes
+    entryRefusals missingRefusals isWithin isContaining fitting allOf anyOf sumOver lacking shortfall shortOf isAlmost shortsOf neverFalls isPlace fewIn
+    goodUnits goodBookmark rowShown comesAfter following movedOn turnPage turning inBytes
     valueFrom version encodeAs encode numberItem numberItems lineItems recordItem recordItems onward one bytes anyTwo isVersion goodPartCount numberSize
     newNumber numbers recordSize linesRead listIn kitIn hasTag follows newKit unless records front runOf whole decode isFault offset
     said roomRefusals sheetRefusals filling lengths lentBoth lentList planOf inserting deleting allKits almostKits anyKit writing

@@ -1,8 +1,10 @@
--- The cases of requests 3, 6, 7 and 14, computed.
+-- The cases of requests 3, 4, 6, 7 and 14, computed.
 use mathlib.Core.Path.{refl}
 use Rattle.demands.specs.Before.{goodByteBefore, goodNumberBefore, newNumberBefore, numbersBefore, frontBefore, decodeBefore}
+use Rattle.demands.specs.Pages.{pagesAmong}
 use Rattle.cases.specs.ShortCases.{insertRows, holding, holdingEmpty, listedOf}
 use Rattle.cases.specs.Limits.{fiveParts}
+use Rattle.cases.specs.Requests.{pageTables, behindRow, markAnswer, PageCases}
 use Rattle.cases.specs.Requests.{BeforeCases, tornTables, TornCases, counted, countedLess, CountCases}
 use Rattle.cases.specs.Requests.{fromBefore, emptyGone, readBefore, EmptyCases}
 use Rattle.cases.proofs.Opened.{opened}
@@ -10,6 +12,10 @@ use Rattle.cases.proofs.Opened.{opened}
 pub before-cases : BeforeCases
 unfolding opened goodByteBefore goodNumberBefore newNumberBefore numbersBefore frontBefore decodeBefore
 before-cases = (refl, refl, refl)
+
+pub page-cases : PageCases
+unfolding opened pagesAmong insertRows holding fiveParts pageTables behindRow markAnswer
+page-cases = (refl, refl, refl, refl, refl, refl, refl, refl, refl, refl, refl, refl, refl, refl)
 
 pub torn-cases : TornCases
 unfolding opened tornTables

@@ -1,19 +1,22 @@
--- What requests 3, 6, 7 and 14 ask, in literal numbers. Computed. The law that proves a statement stands behind "Proof", in proofs/Requests.
+-- What requests 3, 4, 6, 7 and 14 ask, in literal numbers. Computed. The law that proves a statement stands behind "Proof", in proofs/Requests.
 use mathlib.Core.Path.{_≡_}
-use mathlib.Core.Bool.{true}
-use mathlib.Core.List.{List, [], _∷_, map}
-use Prim.Native.Nat.{ℕ, _*_}
-use lib.ListN.{replicate}
+use mathlib.Core.Bool.{true, false}
+use mathlib.Core.List.{List, [], _∷_, _++_, map}
+use Prim.Native.Nat.{ℕ, _-_, _*_}
+use lib.ListN.{length, replicate}
 use Rattle.ground.specs.Calls.{Reply, done, refused, answer, memory, both}
 use Rattle.ground.specs.Tables.{Tables, tables}
 use Rattle.register.specs.Register.{registerSound}
-use Rattle.kits.specs.Kits.{listOf}
+use Rattle.kits.specs.Kits.{listOf, units}
 use Rattle.nodes.specs.Nodes.{wordsPerNode}
 use Rattle.questions.specs.Questions.{isWithin, isContaining}
+use Rattle.pages.specs.declared.Bookmark.{Bookmark}
 use Rattle.sheet.specs.Reading.{item, fault, decode}
 use Rattle.catalogue.specs.Calls.{registerPart, lookUp, showAt, planOf, inserting, finding, deleting, anyKit, almostKits, reading, writing, counting}
+use Rattle.catalogue.specs.Calls.{deleteKit, insertKit, turning}
 use Rattle.demands.specs.Model.{has}
 use Rattle.demands.specs.Before.{decodeBefore}
+use Rattle.demands.specs.Pages.{pagesAmong, pagesFrom}
 use Rattle.cases.specs.ShortCases.{holding, holdingEmpty, listedOf, exampleSheet, exampleSays}
 use Rattle.cases.specs.Limits.{emptyTables, badRegister, fiveParts, sixtyAnd}
 
@@ -30,6 +33,55 @@ BeforeCases =
     (decodeBefore exampleSheet ≡ item exampleSays [] 34)
     × (decodeBefore smallSheet ≡ fault 7)
     × (decode smallSheet ≡ item (has ((0x37 ∷ 0x34 ∷ 0x6C ∷ 0x73 ∷ 0x30 ∷ 0x30 ∷ []) ∷ []) []) [] 16)
+
+------------------------------------------------------------------------
+-- Request 4: bookmarks begun with these places, of which so many count, and one that is not begun
+
+abbrev pub markWith : ℕ → List ℕ → Bookmark
+markWith n ps = record { begun = true; row = record { places = ps ++ replicate (64 - length ps) 0; len = n } }
+
+abbrev pub unbegun : Bookmark
+unbegun = record { begun = false; row = record { places = replicate 64 9; len = 99 } }
+
+-- the kits (2), (1) and (1, 1), with the tags 1, 2 and 3
+unfoldable pub pageTables : Tables
+pageTables = holding ((2 ∷ []) ∷ (1 ∷ []) ∷ (1 ∷ 1 ∷ []) ∷ [])
+
+-- the next of them behind a row
+unfoldable pub behindRow : List ℕ → Reply
+behindRow r = answer (turning isContaining [] pageTables (markWith (length r) r))
+
+-- a page beside five parts, where no kit is held: 0, or the bookmark is at fault
+unfoldable pub markAnswer : ℕ → List ℕ → Reply
+markAnswer n ps = answer (turning isContaining [] (fiveParts 1) (markWith n ps))
+
+-- [14.16] Proof: `page-cases`
+abbrev pub PageCases : Type 0
+PageCases =
+    -- the whole listing, each once, and then 0: of all kits, of those within {1}
+    (pagesFrom 5 isContaining [] pageTables unbegun ≡ done 2 ∷ done 3 ∷ done 1 ∷ done 0 ∷ done 0 ∷ [])
+    × (pagesFrom 3 isWithin (1 ∷ 1 ∷ []) pageTables unbegun ≡ done 2 ∷ done 0 ∷ done 0 ∷ [])
+    -- "the places behind the row's length are 0"; where none is left the bookmark stays, also one not begun
+    × (memory (turning isContaining [] pageTables unbegun) unbegun ≡ markWith 1 (1 ∷ []))
+    × (memory (turning isContaining [] pageTables (markWith 1 (2 ∷ 9 ∷ []))) (markWith 1 (2 ∷ 9 ∷ [])) ≡ markWith 1 (2 ∷ 9 ∷ []))
+    × (memory (turning isWithin [] pageTables unbegun) unbegun ≡ unbegun)
+    -- behind the empty row, rows that are held and rows that are not
+    × (map behindRow ([] ∷ (1 ∷ []) ∷ (1 ∷ 1 ∷ []) ∷ (1 ∷ 1 ∷ 1 ∷ []) ∷ (1 ∷ 3 ∷ []) ∷ (2 ∷ []) ∷ (3 ∷ []) ∷ [])
+    ≡ done 2 ∷ done 3 ∷ done 1 ∷ done 1 ∷ done 1 ∷ done 0 ∷ done 0 ∷ [])
+    -- (1) deleted behind its page, and entered again with the tag 9: not shown again
+    × (pagesAmong ([] ∷ (deleteKit (1 ∷ 1 ∷ []) ∷ []) ∷ (insertKit (1 ∷ 1 ∷ []) 9 ∷ []) ∷ []) isContaining [] pageTables unbegun
+    ≡ done 2 ∷ done 3 ∷ done 1 ∷ [])
+    -- 15 on both sides of each bound: places 1 and 5, 15 equal ones, 64 in all; 0, 6, falling, 16 equal ones; length 65
+    × (map (λ ps. markAnswer (length ps) ps) ([] ∷ (1 ∷ []) ∷ (5 ∷ []) ∷ replicate 15 3 ∷ units (sixtyAnd 4) ∷ []) ≡ replicate 5 (done 0))
+    × (map (λ ps. markAnswer (length ps) ps) ((0 ∷ []) ∷ (6 ∷ []) ∷ (2 ∷ 1 ∷ []) ∷ (1 ∷ 0 ∷ []) ∷ replicate 16 3 ∷ []) ≡ replicate 5 (refused 15 0))
+    × (markAnswer 65 (units (sixtyAnd 4)) ≡ refused 15 0)
+    -- no place behind the length is looked at, and none of a bookmark not begun
+    × (markAnswer 1 (1 ∷ 0 ∷ 9 ∷ []) ≡ done 0)
+    × (answer (turning isContaining [] (fiveParts 1) unbegun) ≡ done 0)
+    -- "after the list checks": 4, 5 and 6 before 15, and 2 before them
+    × (map (λ l. answer (turning isContaining l (fiveParts 1) (markWith 1 (0 ∷ [])))) ((1 ∷ []) ∷ (6 ∷ 1 ∷ []) ∷ (1 ∷ 16 ∷ []) ∷ [])
+    ≡ refused 4 1 ∷ refused 5 1 ∷ refused 6 1 ∷ [])
+    × (answer (turning isContaining (1 ∷ []) (tables badRegister (fiveParts 1 .nodes)) (markWith 1 (0 ∷ []))) ≡ refused 2 0)
 
 ------------------------------------------------------------------------
 -- Request 6: a sheet that brings in 741- and -A

@@ -2,7 +2,7 @@
 -- refusals that passed.
 use mathlib.Core.Path.{_≡_, refl, sym, ap, _∙_}
 use mathlib.Core.Logic.{_≢_}
-use mathlib.Core.Bool.{Bool, true, false}
+use mathlib.Core.Bool.{Bool, true, false, not}
 use mathlib.Core.List.{List, [], _∷_, _++_, append-assoc}
 use Prim.Native.Nat.{ℕ, _≤_, _<_}
 use native.Mathlib.Omega.{arith}
@@ -14,8 +14,8 @@ use Rattle.ground.specs.Laid.{zeroed}
 use Rattle.ground.specs.Calls.{Case, given, plan, Reply, done, refused, isRefused, decide, answer, Promise, setDown, Both, setBoth}
 use Rattle.ground.proofs.Calls.{promise-first, promise-front, promise-behind, promise-part, promise-refused, promise-done, first-refuses}
 use Rattle.ground.proofs.Calls.{first-passes, whole-refuses, whole-passes, set-down-behind, set-both-behind}
-use Rattle.kits.specs.Kits.{mostUnits, mostPlace, units, goodList, listFaults}
-use Rattle.kits.specs.Inner.{GoodRow, fixedRow, unitsIn}
+use Rattle.kits.specs.Kits.{mostUnits, mostPlace, units, goodList, listFaults, fixedRow, unitsIn}
+use Rattle.kits.specs.Inner.{GoodRow}
 use Rattle.kits.specs.declared.Row.{Row}
 use Rattle.kits.proofs.Rows.{row-back}
 use Rattle.kits.proofs.Units.{good-row}
@@ -30,12 +30,15 @@ use Rattle.index.specs.Index.{entryRefusals, missingRefusals}
 use Rattle.index.specs.Inner.{insertingRow, findingRow, deletingRow}
 use Rattle.questions.specs.Questions.{anyOf, allOf}
 use Rattle.shortfalls.specs.Shortfalls.{mostShort, almostTags, almostShorts, listAlmost}
+use Rattle.pages.specs.Pages.{goodBookmark, turnPage}
+use Rattle.pages.specs.declared.Bookmark.{Bookmark}
 use Rattle.sheet.specs.Sheet.{encode}
 use Rattle.sheet.specs.Calls as sheet
 use Rattle.sheet_read.specs.Inner as filling
 use Rattle.ground.specs.Tables.{Tables, tables}
 use Rattle.tables.specs.Lent.{partCount, lengths, lentBoth, lentList}
-use Rattle.catalogue.specs.Calls.{contents, emptying, inserting, finding, deleting, counting, anyKit, allKits, almostKits, writing, reading}
+use Rattle.catalogue.specs.Calls.{contents, emptying, inserting, finding, deleting, counting, anyKit, allKits, almostKits, turning}
+use Rattle.catalogue.specs.Calls.{writing, reading}
 
 -- the row of a list that has room, as it is lent on by value
 module _ (w : Row) (l : List ℕ) (is : w ≡ fixedRow (units l)) where
@@ -202,6 +205,32 @@ module _ (R N : List ℕ) where
         unfolding almostKits
         almost-done q m e h p =
             set-both-behind (lentList (tables R N) l ++ tooFar) 0 (almostTags d l N) (almostShorts d l N) o (near-passes e h) p
+
+      -- Turning a page
+      module _ (question : List ℕ → Kit → Bool) (b : Bookmark) where
+        abbrev good : Bool
+        good = goodBookmark (partCount (tables R N)) b
+
+        pub page-refused : isRefused r ≡ true → Promise (turning question l (tables R N) b) b r b
+        unfolding turning turnPage
+        page-refused e = promise-front (lentList (tables R N) l) _ _ _ b r 0 is e
+
+        module _ (e : isRefused r ≡ false) where
+          -- behind the checks of the tables and the list
+          behind-lent : (q : Reply) (m : Bookmark) → Promise (turnPage (given (not good) 15 0 ∷ []) question l N b) b q m →
+              Promise (turning question l (tables R N) b) b q m
+          unfolding turning turnPage
+          behind-lent q m p = promise-behind (lentList (tables R N) l) _ _ _ b q m 0 (ap isRefused (sym is) ∙ e) p
+
+          pub page-bad-bookmark : good ≡ false → Promise (turning question l (tables R N) b) b (refused 15 0) b
+          unfolding turnPage answer
+          page-bad-bookmark h = behind-lent _ _ (promise-refused (plan _ _ _) b 15 0 (at-once (not good) 15 0 [] _ (ap not h)))
+
+          pub page-done : (q : Reply) (m : Bookmark) → good ≡ true → Promise (turnPage [] question l N b) b q m →
+              Promise (turning question l (tables R N) b) b q m
+          unfolding turnPage
+          page-done q m h p =
+              behind-lent q m (promise-behind (given (not good) 15 0 ∷ []) [] _ _ b q m 0 (alone (not good) 15 0 (ap not h)) p)
 
     -- Inserting
     module _ (t : ℕ) (r : Reply) (is : r ≡ decide (lentBoth (tables R N)) 0) where

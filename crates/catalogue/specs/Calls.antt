@@ -1,6 +1,6 @@
 -- Document 01, "Calls and what they answer": the calls that are lent both tables, each as the list of its refusals in the paper's order,
 -- its value, and what it leaves in the memory that it may write.
-use mathlib.Core.Bool.{Bool}
+use mathlib.Core.Bool.{Bool, not}
 use mathlib.Core.List.{List, [], _∷_, _++_}
 use Prim.Native.Nat.{ℕ}
 use lib.ListN.{length}
@@ -18,6 +18,8 @@ use Rattle.index_delete.specs.Strike.{strike}
 use Rattle.index.specs.Index.{entryRefusals, missingRefusals}
 use Rattle.questions.specs.Questions.{isWithin, isContaining, anyOf, allOf}
 use Rattle.shortfalls.specs.Shortfalls.{mostShort, listAlmost}
+use Rattle.pages.specs.Pages.{goodBookmark, turnPage}
+use Rattle.pages.specs.declared.Bookmark.{Bookmark}
 use Rattle.sheet.specs.Sheet.{Contents, contentsOf, withoutEmpty, encode}
 use Rattle.sheet.specs.Reading.{decode, said}
 use Rattle.sheet.specs.Calls.{sheetRefusals}
@@ -80,6 +82,10 @@ allKits question l T o = setDown (lentList T l) (allOf question l (T .nodes)) o
 unfoldable pub almostKits : ℕ → List ℕ → Tables → Both → Plan Both
 almostKits d l T o = listAlmost (lentList T l ++ (given (ltb mostShort d) 14 0 ∷ [])) d l (T .nodes) o
 
+-- [8.15, 10.16] "a bookmark that is lent to the call and moved on in place": "new 15, .., after the list checks"
+unfoldable pub turning : Question → List ℕ → Tables → Bookmark → Plan Bookmark
+turning question l T b = turnPage (lentList T l ++ (given (not (goodBookmark (partCount T) b)) 15 0 ∷ [])) question l (T .nodes) b
+
 -- [10.10] "Write the sheet at the start of a lent output: bytes written"
 unfoldable pub writing : Tables → List ℕ → Plan (List ℕ)
 writing T o = setDown (lentBoth T) (encode (contents T)) o
@@ -100,6 +106,10 @@ Leaves call R N a R′ N′ = Promise (call (tables R N)) (tables R N) (reply a)
 abbrev pub Sets : (List ℕ → Plan (List ℕ)) → List ℕ → Answer → List ℕ → Type 0
 Sets call o a p = Promise (call o) o (reply a) p
 
+-- what a step with a bookmark b promises of its answer and of the bookmark c afterwards
+abbrev pub Turns : Question → List ℕ → List ℕ → List ℕ → Bookmark → Answer → Bookmark → Type 0
+Turns question R N l b a c = Promise (turning question l (tables R N) b) b (reply a) c
+
 -- A call, with what is lent to it besides the tables
 pub data Call : Type 0 where
   emptyBoth : Call
@@ -109,6 +119,7 @@ pub data Call : Type 0 where
   findKit deleteKit countKits anyWithin anyContaining : List ℕ → Call
   allWithin allContaining : List ℕ → List ℕ → Call
   allAlmost : ℕ → List ℕ → Both → Call
+  turnWithin turnContaining : List ℕ → Bookmark → Call
   writeSheet readSheet : List ℕ → Call
 
 -- a call on the register alone
@@ -133,5 +144,7 @@ planOf (anyContaining l) T = anyKit isContaining l T
 planOf (allWithin l o) T = apart T (allKits isWithin l T o)
 planOf (allContaining l o) T = apart T (allKits isContaining l T o)
 planOf (allAlmost d l o) T = apart T (almostKits d l T o)
+planOf (turnWithin l b) T = apart T (turning isWithin l T b)
+planOf (turnContaining l b) T = apart T (turning isContaining l T b)
 planOf (writeSheet o) T = apart T (writing T o)
 planOf (readSheet s) T = reading s T

@@ -5,9 +5,12 @@ ghost use Rattle.ground.specs.Calls.{answer, SetsBoth};
 ghost use Rattle.questions.specs.Questions.{isWithin, isContaining};
 ghost use Rattle.ground.specs.Tables.{tables};
 ghost use Rattle.answers.specs.Answers.{reply};
-ghost use Rattle.catalogue.specs.Calls.{emptying, inserting, finding, deleting, counting, anyKit, allKits, almostKits, writing, reading, Leaves, Sets};
+ghost use Rattle.catalogue.specs.Calls.{emptying, inserting, finding, deleting, counting, anyKit, allKits, almostKits, writing, reading};
+ghost use Rattle.catalogue.specs.Calls.{Leaves, Sets, Turns};
 use answers::Answer;
 use answers::refused;
+use pages::Bookmark;
+use pages::Page;
 use tables::check_lengths;
 use tables::check_tables;
 
@@ -132,6 +135,35 @@ pub fn all_almost(
         return lent;
     }
     sound::all_almost(reg, nodes, bin, d, tags, shorts)
+}
+
+// The next page of the kits within the bin: the tag of the first kit after the bookmark's row, or 0 where none is left; and the bookmark at that kit,
+// or as it was. By value: `turning` moves a lent one on in place.
+pub fn page_within(reg: &[u8], nodes: &[u16], bin: &[u16], mark: Bookmark) -> Page
+    ensures { λ r. ⌜ Turns isWithin (now (reg .entry)) (now (nodes .entry)) (now (bin .entry)) mark (r .answer) (r .mark) ⌝ }
+{
+    let lent = check_tables(reg, nodes);
+    if refused(lent) {
+        return Page {
+            answer: lent,
+            mark: mark,
+        };
+    }
+    sound::page_within(reg, nodes, bin, mark)
+}
+
+// The next page of the kits containing the list, alike.
+pub fn page_containing(reg: &[u8], nodes: &[u16], list: &[u16], mark: Bookmark) -> Page
+    ensures { λ r. ⌜ Turns isContaining (now (reg .entry)) (now (nodes .entry)) (now (list .entry)) mark (r .answer) (r .mark) ⌝ }
+{
+    let lent = check_tables(reg, nodes);
+    if refused(lent) {
+        return Page {
+            answer: lent,
+            mark: mark,
+        };
+    }
+    sound::page_containing(reg, nodes, list, mark)
 }
 
 // Writes the sheet at the start of the output: the bytes written.

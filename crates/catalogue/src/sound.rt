@@ -6,10 +6,13 @@ ghost use Rattle.questions.specs.Questions.{isWithin, isContaining};
 ghost use Rattle.ground.specs.Tables.{tables};
 ghost use Rattle.tables.specs.Inner.{SoundTables};
 ghost use Rattle.answers.specs.Answers.{reply};
-ghost use Rattle.catalogue.specs.Calls.{inserting, finding, deleting, counting, anyKit, allKits, almostKits, writing, Leaves, Sets};
+ghost use Rattle.catalogue.specs.Calls.{inserting, finding, deleting, counting, anyKit, allKits, almostKits, writing, Leaves, Sets, Turns};
 use answers::Answer;
 use answers::refused;
 use ground::wide16;
+use pages::Bookmark;
+use pages::Page;
+use pages::good_bookmark;
 use shortfalls::MOST_SHORT;
 use tables::check_lines;
 
@@ -146,6 +149,50 @@ pub fn all_almost(
         return Answer::TooFar;
     }
     shortfalls::all_almost(nodes, bin, d, tags, shorts)
+}
+
+// The next page of the kits within the bin: the tag of the first kit after the bookmark's row, or 0, and the bookmark at that kit.
+pub fn page_within(reg: &[u8], nodes: &[u16], bin: &[u16], mark: Bookmark) -> Page
+    requires { ⌜ SoundTables (tables (now reg) (now nodes)) ⌝ }
+    ensures { λ r. ⌜ Turns isWithin (now (reg .entry)) (now (nodes .entry)) (now (bin .entry)) mark (r .answer) (r .mark) ⌝ }
+{
+    let typed = check_lines(reg, bin);
+    if refused(typed) {
+        return Page {
+            answer: typed,
+            mark: mark,
+        };
+    }
+    let parts = register::count_parts(reg) as u16;
+    if !good_bookmark(mark, parts) {
+        return Page {
+            answer: Answer::BadBookmark,
+            mark: mark,
+        };
+    }
+    pages::page_within(nodes, bin, mark)
+}
+
+// The next page of the kits containing the list: the tag of the first kit after the bookmark's row, or 0, and the bookmark at that kit.
+pub fn page_containing(reg: &[u8], nodes: &[u16], list: &[u16], mark: Bookmark) -> Page
+    requires { ⌜ SoundTables (tables (now reg) (now nodes)) ⌝ }
+    ensures { λ r. ⌜ Turns isContaining (now (reg .entry)) (now (nodes .entry)) (now (list .entry)) mark (r .answer) (r .mark) ⌝ }
+{
+    let typed = check_lines(reg, list);
+    if refused(typed) {
+        return Page {
+            answer: typed,
+            mark: mark,
+        };
+    }
+    let parts = register::count_parts(reg) as u16;
+    if !good_bookmark(mark, parts) {
+        return Page {
+            answer: Answer::BadBookmark,
+            mark: mark,
+        };
+    }
+    pages::page_containing(nodes, list, mark)
 }
 
 // Writes the sheet at the start of the output: the bytes written.

@@ -113,7 +113,7 @@ pub all-answers : AllAnswers
 all-answers a question l o h = (all-answer (brought a h) question l o, all-memory (brought a h) question l o)
 
 -- no tag is said exactly when there is no kit
-no-first : (ks : List Kit) → ((k : Kit) → List·Memᴰ k ks → 0 < k .tag) → (firstTag ks ≡ 0) ↔ (ks ≡ [])
+pub no-first : (ks : List Kit) → ((k : Kit) → List·Memᴰ k ks → 0 < k .tag) → (firstTag ks ≡ 0) ↔ (ks ≡ [])
 unfolding firstTag
 no-first [] f = (λ e. refl, λ e. refl)
 no-first (k ∷ ks) f = (λ e. absurd (omega (arith, f k (List·Memᴰ·head refl))), λ e. ap firstTag e)

@@ -9,7 +9,7 @@ use Rattle.kits.specs.Kits.{units, listFaults}
 use Rattle.kits.proofs.Units.{good-row}
 use Rattle.index_insert.specs.Enter.{enter}
 use Rattle.index.specs.Inner.{deletingRow, findingRow}
-use Rattle.index_undo.specs.Undone.{entering}
+use Rattle.index_undo.specs.Inner.{entering}
 use Rattle.index_undo.proofs.Undone.{entry-leaves, deleted-at-once}
 use Rattle.tables.specs.Inner.{SoundTables}
 use Rattle.tables.specs.Lent.{partCount, lentBoth, lentList}

@@ -35,11 +35,10 @@ use Rattle.sheet.specs.Bytes.{Bytes}
 use Rattle.sheet.specs.Sheet.{Contents, withoutEmpty, encode}
 use Rattle.sheet.specs.Inner.{goodKit, fitsSheet}
 use Rattle.sheet.specs.Reading.{decode, said}
-use Rattle.sheet.proofs.Fits.{Fits, fitting-fits}
+use Rattle.sheet.proofs.Fits.{Fits, fitting-fits, rising-earlier}
 use Rattle.sheet_read.specs.Filling.{filling}
 use Rattle.sheet_read.specs.Inner as read
 use Rattle.sheet_read.proofs.Reading as filled
-use Rattle.sheet_read.proofs.Listed.{rising-earlier}
 use Rattle.sheet_read.proofs.RoundTrip.{SmallTags, words-small}
 use Rattle.ground.specs.Tables.{Tables, tables}
 use Rattle.tables.specs.Lent.{lengths}
@@ -48,7 +47,7 @@ use Rattle.catalogue.proofs.Kept.{done-parts, same-register-length, same-nodes-
 use Rattle.catalogue.proofs.Kept.{empty-sound, register-keeps-sound, insert-keeps-sound, delete-keeps-sound}
 use Rattle.catalogue.specs.Calls.{Call, emptyBoth, registerPart, lookUp, showAt, insertKit, findKit, deleteKit, anyWithin, anyContaining}
 use Rattle.catalogue.specs.Calls.{allWithin, allContaining, allAlmost, writeSheet, readSheet, planOf, emptying, inserting, finding}
-use Rattle.catalogue.specs.Calls.{contents, countKits, deleting, counting, anyKit, reading}
+use Rattle.catalogue.specs.Calls.{contents, countKits, turnWithin, turnContaining, deleting, counting, anyKit, reading}
 use Rattle.demands.specs.Model as demand
 use Rattle.demands.specs.Model.{has, step, model, run, log, TypesSay, Words, Catalogue, Allowed, begun}
 use Rattle.demands.specs.Model.{tablesOf, entered}
@@ -291,6 +290,8 @@ done-keeps (anyContaining l) T m v y e b = b
 done-keeps (allWithin l o) T m v y e b = b
 done-keeps (allContaining l o) T m v y e b = b
 done-keeps (allAlmost d l o) T m v y e b = b
+done-keeps (turnWithin l k) T m v y e b = b
+done-keeps (turnContaining l k) T m v y e b = b
 done-keeps (writeSheet o) T m v y e b = b
 done-keeps (readSheet s) T m v y e b = read-kept s T v (y .sheet s refl) e
 

@@ -13,11 +13,12 @@ use Rattle.register.specs.Calls.{lentRegister, numberRefusals, registering, loo
 use Rattle.kits.specs.Kits.{lineFaults, linesFaults, listFaults}
 use Rattle.nodes.proofs.Sorted.{Every, none, also, every-append}
 use Rattle.index.specs.Index.{entryRefusals, missingRefusals}
+use Rattle.pages.specs.Pages.{turnPage}
 use Rattle.sheet.specs.Calls.{sheetRefusals, roomRefusals}
 use Rattle.tables.specs.Lent.{partCount, lengths, lentBoth, lentList}
 use Rattle.catalogue.specs.Calls.{Call, emptyBoth, registerPart, lookUp, showAt, insertKit, findKit, deleteKit, anyWithin, anyContaining}
 use Rattle.catalogue.specs.Calls.{allWithin, allContaining, allAlmost, writeSheet, readSheet, planOf, emptying, inserting, finding}
-use Rattle.catalogue.specs.Calls.{countKits, deleting, counting, anyKit, allKits, almostKits, writing, reading}
+use Rattle.catalogue.specs.Calls.{countKits, turnWithin, turnContaining, deleting, counting, anyKit, allKits, almostKits, turning, writing, reading}
 use Rattle.demands.specs.Demand1.{numbersGiven, NumbersLaidDown}
 
 -- its number is among some
@@ -47,7 +48,8 @@ module _ (ns : List ℕ) (four : anyb (eqb 4) ns ≡ true) (five : anyb (eqb 5) 
 -- call by call
 cases-in : (c : Call) (T : Tables) → Every (NumberIn (numbersGiven c)) (planOf c T .cases)
 unfolding anyb numbersGiven planOf lentRegister lengths lentBoth lentList emptying registering numberRefusals lookingUp showing inserting
-    entryRefusals finding deleting missingRefusals counting anyKit allKits almostKits setBoth writing setDown reading sheetRefusals roomRefusals
+    entryRefusals finding deleting missingRefusals counting anyKit allKits almostKits setBoth turning turnPage writing setDown reading
+    sheetRefusals roomRefusals
 cases-in emptyBoth T = also refl (also refl none)
 cases-in (registerPart n) T = also refl (also refl (also refl (also refl (also refl (also refl none)))))
 cases-in (lookUp n) T = also refl (also refl (also refl (also refl none)))
@@ -68,6 +70,10 @@ cases-in (allContaining l o) T =
     also refl (also refl (also refl (also refl (every-append (list-in (numbersGiven (allContaining l o)) refl refl refl (partCount T) l) (also refl none)))))
 cases-in (allAlmost d l o) T = also refl (also refl (also refl (also refl
     (every-append (every-append (list-in (numbersGiven (allAlmost d l o)) refl refl refl (partCount T) l) (also refl none)) (also refl none)))))
+cases-in (turnWithin l b) T =
+    also refl (also refl (also refl (also refl (every-append (list-in (numbersGiven (turnWithin l b)) refl refl refl (partCount T) l) (also refl none)))))
+cases-in (turnContaining l b) T =
+    also refl (also refl (also refl (also refl (every-append (list-in (numbersGiven (turnContaining l b)) refl refl refl (partCount T) l) (also refl none)))))
 cases-in (writeSheet o) T = also refl (also refl (also refl (also refl (also refl none))))
 cases-in (readSheet s) T = also refl (also refl (also refl (also refl (also refl none))))
 

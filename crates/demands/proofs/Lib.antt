@@ -8,6 +8,8 @@ pub mod NeverEmpty
 pub mod Answers
 pub mod Almost
 pub mod Beginning
+pub mod Pages
+pub mod Turned
 pub mod Counts
 pub mod Sheets
 pub mod Told

@@ -20,7 +20,7 @@ use Rattle.sheet.specs.Sheet.{Contents}
 use Rattle.tables.specs.Lent.{partCount}
 use Rattle.catalogue.specs.Calls.{Call, emptyBoth, registerPart, lookUp, showAt, insertKit, findKit, deleteKit, anyWithin, anyContaining}
 use Rattle.catalogue.specs.Calls.{allWithin, allContaining, allAlmost, writeSheet, readSheet, planOf, emptying, inserting, finding}
-use Rattle.catalogue.specs.Calls.{countKits, deleting, counting, anyKit}
+use Rattle.catalogue.specs.Calls.{countKits, turnWithin, turnContaining, deleting, counting, anyKit}
 use Rattle.catalogue.proofs.Kept.{kept-by, zeros-again, insertion, delete-held}
 use Rattle.demands.specs.Model.{has, step, run, TypesSay, Catalogue, Allowed, begun, tablesOf}
 use Rattle.demands.specs.Demand2.{NeverEmpty}
@@ -67,6 +67,8 @@ done-lists (anyContaining l) T m v y e b all = all
 done-lists (allWithin l o) T m v y e b all = all
 done-lists (allContaining l o) T m v y e b all = all
 done-lists (allAlmost d l o) T m v y e b all = all
+done-lists (turnWithin l k) T m v y e b all = all
+done-lists (turnContaining l k) T m v y e b all = all
 done-lists (writeSheet o) T m v y e b all = all
 done-lists (readSheet s) T m v y e b all = what-was-read s T v (y .sheet s refl) e .none-empty
 

@@ -53,7 +53,7 @@ pass-one c cs w n v other e = go (c .test) refl e
     go false t f = (t, f)
 
 -- and with a number that none of some cases has, from behind all of them
-pass-all : (ns : List ℕ) (cs ds : List Case) (w n v : ℕ) → Every (NumberIn ns) cs → anyb (eqb n) ns ≡ false → decide (cs ++ ds) w ≡ refused n v →
+pub pass-all : (ns : List ℕ) (cs ds : List Case) (w n v : ℕ) → Every (NumberIn ns) cs → anyb (eqb n) ns ≡ false → decide (cs ++ ds) w ≡ refused n v →
     (decide cs 0 ≡ done 0) × (decide ds w ≡ refused n v)
 unfolding decide
 pass-all ns [] ds w n v none out e = (refl, e)

@@ -19,7 +19,7 @@ use Rattle.ground.specs.Tables.{Tables, tables}
 use Rattle.tables.specs.Lent.{partCount}
 use Rattle.catalogue.specs.Calls.{Call, emptyBoth, registerPart, lookUp, showAt, insertKit, findKit, deleteKit, anyWithin, anyContaining}
 use Rattle.catalogue.specs.Calls.{allWithin, allContaining, allAlmost, writeSheet, readSheet, planOf, emptying, inserting, finding}
-use Rattle.catalogue.specs.Calls.{countKits, deleting, counting, anyKit}
+use Rattle.catalogue.specs.Calls.{countKits, turnWithin, turnContaining, deleting, counting, anyKit}
 use Rattle.demands.specs.Model.{has, step, run, TypesSay, Catalogue, Allowed, begun, tablesOf}
 use Rattle.catalogue.proofs.Kept.{insertion, delete-held}
 use Rattle.demands.proofs.Brought.{Brought, what-was-read, call-keeps, begun-empty, all-typed}
@@ -59,6 +59,8 @@ done-alike (anyContaining l) T m v y e b = record { register = refl; nodes = ref
 done-alike (allWithin l o) T m v y e b = record { register = refl; nodes = refl }
 done-alike (allContaining l o) T m v y e b = record { register = refl; nodes = refl }
 done-alike (allAlmost d l o) T m v y e b = record { register = refl; nodes = refl }
+done-alike (turnWithin l k) T m v y e b = record { register = refl; nodes = refl }
+done-alike (turnContaining l k) T m v y e b = record { register = refl; nodes = refl }
 done-alike (writeSheet o) T m v y e b = record { register = refl; nodes = refl }
 done-alike (readSheet s) T m v y e b =
     let r = what-was-read s T v (y .sheet s refl) e in record { register = r .register-length; nodes = r .nodes-length }

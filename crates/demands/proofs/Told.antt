@@ -29,7 +29,7 @@ use Rattle.tables.specs.Lent.{lengths, lentList}
 use Rattle.tables.proofs.Lent.{lengths-good}
 use Rattle.catalogue.specs.Calls.{Call, emptyBoth, registerPart, lookUp, showAt, insertKit, findKit, deleteKit, anyWithin, anyContaining}
 use Rattle.catalogue.specs.Calls.{allWithin, allContaining, allAlmost, writeSheet, readSheet, planOf, emptying, inserting, finding}
-use Rattle.catalogue.specs.Calls.{countKits, deleting, reading}
+use Rattle.catalogue.specs.Calls.{countKits, turnWithin, turnContaining, deleting, reading}
 use Rattle.demands.specs.Model.{more}
 use Rattle.demands.specs.Demand1.{told, ToldExactly}
 use Rattle.demands.proofs.Model.{tag-order}
@@ -39,6 +39,7 @@ use Rattle.demands.proofs.NeverEmpty.{AllListed, never-empty}
 use Rattle.demands.proofs.Answers.{behind-tables, any-answer, all-answer}
 use Rattle.demands.proofs.Almost.{almost-answer}
 use Rattle.demands.proofs.Beginning.{count-answer}
+use Rattle.demands.proofs.Pages.{page-answer}
 use Rattle.demands.proofs.Sheets.{write-answer}
 use Rattle.demands.proofs.Counts.{as-many}
 
@@ -166,6 +167,8 @@ module _ {T : Tables} {m : Contents} (b : Brought T m) (all : AllListed T) (slot
   call-told (allWithin l o) = all-answer b isWithin l o
   call-told (allContaining l o) = all-answer b isContaining l o
   call-told (allAlmost d l o) = almost-answer b d l o
+  call-told (turnWithin l k) = page-answer b isWithin l k
+  call-told (turnContaining l k) = page-answer b isContaining l k
   call-told (writeSheet o) = write-answer b o
   call-told (readSheet s) = read-told s
 

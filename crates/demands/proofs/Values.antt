@@ -22,7 +22,7 @@ use Rattle.kits.specs.Kits.{mostUnits, mostPlace, listOf, units, lineValue, lin
 use Rattle.kits.specs.Inner.{GoodRow}
 use Rattle.nodes.specs.Held.{Kit, held, listed, someUnit, tagIn, tagsOf, firstTag, beginnings, addNew, allBeginnings}
 use Rattle.nodes.proofs.Lists.{zero-or}
-use Rattle.nodes.proofs.Sorted.{Every, none, also, every-append, keep-short, allb-mem}
+use Rattle.nodes.proofs.Sorted.{Every, none, also, every-append, keep-mem, keep-short, allb-mem}
 use Rattle.nodes.proofs.Listing.{tags-long, tag-from}
 use Rattle.nodes.proofs.Tallies.{count-most}
 use Rattle.nodes.proofs.Units.{listed-mem}
@@ -32,6 +32,8 @@ use Rattle.index.specs.Index.{entryRefusals, missingRefusals}
 use Rattle.questions.specs.Questions.{isWithin, isContaining, fitting, anyOf, allOf}
 use Rattle.questions.proofs.Meaning.{fitting-exactly}
 use Rattle.shortfalls.specs.Shortfalls.{isAlmost}
+use Rattle.pages.specs.Pages.{rowShown, comesAfter, following, turnPage}
+use Rattle.pages.specs.declared.Bookmark.{Bookmark}
 use Rattle.sheet.specs.Bytes.{inBytes, two, Bytes}
 use Rattle.sheet.specs.Sheet.{Contents, contentsOf, placeBytes, lineWords, numberItem, numberItems, recordItem, recordItems, encodeAs, encode}
 use Rattle.sheet.specs.Sheet.{nodesNeeded}
@@ -51,7 +53,7 @@ use Rattle.ground.specs.Tables.{Tables, tables}
 use Rattle.tables.specs.Lent.{partCount, lengths, lentBoth, lentList}
 use Rattle.catalogue.specs.Calls.{emptyBoth, registerPart, lookUp, showAt, insertKit, findKit, deleteKit, anyWithin, anyContaining}
 use Rattle.catalogue.specs.Calls.{allWithin, allContaining, allAlmost, writeSheet, readSheet, planOf, emptying, inserting, finding}
-use Rattle.catalogue.specs.Calls.{countKits, deleting, counting, anyKit, allKits, almostKits, writing, reading}
+use Rattle.catalogue.specs.Calls.{countKits, turnWithin, turnContaining, deleting, counting, anyKit, allKits, almostKits, turning, writing, reading}
 use Rattle.catalogue.specs.Calls.{Question}
 use Rattle.demands.specs.Pins.{ValuesFit}
 use Rattle.demands.proofs.Offsets.{fault-near}
@@ -303,6 +305,13 @@ module _ (R N : List ℕ) (words : (i : ℕ) → getD N i 0 < twoLimit) where
       let few : length (tagsOf (fitting (isAlmost d) l N)) < limit = few-fitting (isAlmost d) l e in
       small-step _ _ _ (λ _. few) (λ _. end-small _ few))))
 
+  pub turning-small : (question : Question) (l : List ℕ) (b : Bookmark) → valueOf (answer (turning question l (tables R N) b)) < limit
+  unfolding answer turning turnPage following
+  turning-small question l b = small-front (lentList T l) _ _ (list-fits T l) (λ e.
+      small-step _ _ _ (λ _. some-limit) (λ _. end-small _
+      (first-small limit (following question l b N) some-limit (λ k i.
+      fitting-here (list-lent l e) question l k (keep-mem (comesAfter (rowShown b)) k (fitting question l N) i .0)))))
+
   pub emptying-small : valueOf (answer (emptying (tables R N))) < limit
   unfolding answer emptying
   emptying-small = small-end (lengths T) 0 (lengths-fit T) (λ _. some-limit)
@@ -378,5 +387,7 @@ values-fit (anyContaining l) T w b = any-small (T .register) (T .nodes) w isCont
 values-fit (allWithin l o) T w b = all-small (T .register) (T .nodes) w isWithin l o
 values-fit (allContaining l o) T w b = all-small (T .register) (T .nodes) w isContaining l o
 values-fit (allAlmost d l o) T w b = almost-small (T .register) (T .nodes) w d l o
+values-fit (turnWithin l k) T w b = turning-small (T .register) (T .nodes) w isWithin l k
+values-fit (turnContaining l k) T w b = turning-small (T .register) (T .nodes) w isContaining l k
 values-fit (writeSheet o) T w b = writing-small (T .register) (T .nodes) w o
 values-fit (readSheet s) T w b = reading-small s T (b s refl)

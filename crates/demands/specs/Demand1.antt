@@ -20,14 +20,15 @@ use Rattle.nodes.specs.Nodes.{nodesLength}
 use Rattle.nodes.specs.Sound.{nodesSound}
 use Rattle.nodes.specs.Held.{countBeginning, firstTag, tagIn, tagsOf}
 use Rattle.questions.specs.Questions.{isContaining, isWithin}
+use Rattle.pages.specs.declared.Bookmark.{Bookmark}
 use Rattle.sheet.specs.Sheet.{Contents, encode, nodesNeeded, withoutEmpty}
 use Rattle.sheet.specs.Reading.{decode, said}
 use Rattle.sheet.specs.Calls.{sheetRefusals}
 use Rattle.tables.specs.Lent.{partCount}
 use Rattle.catalogue.specs.Calls.{Call, Question, allAlmost, allContaining, allKits, allWithin, almostKits, anyContaining, anyWithin}
 use Rattle.catalogue.specs.Calls.{countKits, deleteKit, emptyBoth, findKit, insertKit, lookUp, planOf, readSheet, registerPart, showAt, writeSheet}
-use Rattle.catalogue.specs.Calls.{writing}
-use Rattle.demands.specs.Model.{Allowed, Catalogue, almostOf, answering, entered, listedIn, listingOf, more, tablesOf}
+use Rattle.catalogue.specs.Calls.{turnContaining, turnWithin, turning, writing}
+use Rattle.demands.specs.Model.{Allowed, Catalogue, almostOf, answering, entered, listedIn, listingOf, more, pageOf, tablesOf}
 
 ------------------------------------------------------------------------
 -- Every reply, from any list of calls: what a catalogue that was begun empty answers, in terms of what its accepted calls left and of its
@@ -64,6 +65,8 @@ told slots room m (anyContaining l) = decide (listFaults (length (m .parts)) l) 
 told slots room m (allWithin l o) = answer (listingOf isWithin l m o)
 told slots room m (allContaining l o) = answer (listingOf isContaining l m o)
 told slots room m (allAlmost d l o) = answer (almostOf d l m o)
+told slots room m (turnWithin l b) = answer (pageOf isWithin l m b)
+told slots room m (turnContaining l b) = answer (pageOf isContaining l m b)
 told slots room m (writeSheet o) = answer (setDown [] (encode (listedIn m)) o)
 told slots room m (readSheet s) = decide (sheetRefusals s slots room) (length (withoutEmpty (said (decode s)) .kits))
 
@@ -93,6 +96,8 @@ asksOf (anyContaining l) = bothTables
 asksOf (allWithin l o) = bothTables
 asksOf (allContaining l o) = bothTables
 asksOf (allAlmost d l o) = bothTables
+asksOf (turnWithin l b) = bothTables
+asksOf (turnContaining l b) = bothTables
 asksOf (writeSheet o) = bothTables
 asksOf (readSheet s) = theLengths
 
@@ -133,6 +138,8 @@ numbersGiven (anyContaining l) = 1 ∷ 2 ∷ 4 ∷ 5 ∷ 6 ∷ []
 numbersGiven (allWithin l o) = 1 ∷ 2 ∷ 4 ∷ 5 ∷ 6 ∷ 12 ∷ []
 numbersGiven (allContaining l o) = 1 ∷ 2 ∷ 4 ∷ 5 ∷ 6 ∷ 12 ∷ []
 numbersGiven (allAlmost d l o) = 1 ∷ 2 ∷ 4 ∷ 5 ∷ 6 ∷ 14 ∷ 12 ∷ []
+numbersGiven (turnWithin l b) = 1 ∷ 2 ∷ 4 ∷ 5 ∷ 6 ∷ 15 ∷ []
+numbersGiven (turnContaining l b) = 1 ∷ 2 ∷ 4 ∷ 5 ∷ 6 ∷ 15 ∷ []
 numbersGiven (writeSheet o) = 1 ∷ 2 ∷ 12 ∷ []
 numbersGiven (readSheet s) = 1 ∷ 13 ∷ 12 ∷ []
 
@@ -153,23 +160,26 @@ RefusedExactly = (c : Call) (T : Tables) (n v : ℕ) → (answer (planOf c T) �
 abbrev pub RefusalKeeps : Type 0
 RefusalKeeps = (c : Call) (T : Tables) (n v : ℕ) → answer (planOf c T) ≡ refused n v → memory (planOf c T) T ≡ T
 
--- the calls that set something down: a listing and the sheet in an output, the kits that a bin almost fills in two
+-- the calls that set something down: a listing and the sheet in an output, the kits that a bin almost fills in two, a page in its bookmark
 pub data SetsDown : Type 0 where
   listing : Question → List ℕ → SetsDown
   listingAlmost : ℕ → List ℕ → SetsDown
+  page : Question → List ℕ → SetsDown
   sheet : SetsDown
 
 abbrev pub Output : SetsDown → Type 0
 Output (listing question l) = List ℕ
 Output (listingAlmost d l) = Both
+Output (page question l) = Bookmark
 Output sheet = List ℕ
 
 unfoldable pub settingDown : (x : SetsDown) → Tables → Output x → Plan (Output x)
 settingDown (listing question l) T o = allKits question l T o
 settingDown (listingAlmost d l) T o = almostKits d l T o
+settingDown (page question l) T b = turning question l T b
 settingDown sheet T o = writing T o
 
--- [14.4] "the tables and output are byte for byte what they were": the output, or both. Proof: Refusals, `refusal-keeps-output`
+-- [14.4] "the tables and output are byte for byte what they were": the output, or both; the bookmark in every word. Proof: Refusals, `refusal-keeps-output`
 abbrev pub RefusalKeepsOutput : Type 0
 RefusalKeepsOutput =
     (x : SetsDown) (T : Tables) (o : Output x) (n v : ℕ) → answer (settingDown x T o) ≡ refused n v → memory (settingDown x T o) o ≡ o

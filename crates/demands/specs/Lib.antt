@@ -5,6 +5,7 @@ pub mod AtFault
 pub mod Demand2
 pub mod Almost
 pub mod Beginning
+pub mod Pages
 pub mod Demand3
 pub mod NoKit
 pub mod AtOnce

@@ -1,24 +1,27 @@
 -- What a catalogue has, and what it is to answer: "what a catalogue has is what its accepted calls entered or read, less what later calls
 -- struck out, cleared or replaced by reading a sheet". Read off the calls and their replies, never off a table.
 use mathlib.Core.Path.{_≡_}
+use mathlib.Core.Bool.{not}
 use mathlib.Core.List.{List, List·Memᴰ, [], _++_, _∷_}
-use Prim.Native.Nat.{_*_, _+_, _-_, _<_, _≤_, ℕ}
+use Prim.Native.Nat.{_*_, _+_, _<_, _≤_, ℕ}
 use lib.ListN.{getD, length, replicate}
 use lib.Dec.{ltb}
 use Rattle.ground.specs.Limits.{mostParts, twoLimit}
 use Rattle.ground.specs.Lists.{keep}
-use Rattle.ground.specs.Calls.{Both, Plan, Reply, answer, done, given, memory, refused, setBoth, setDown}
+use Rattle.ground.specs.Calls.{Both, Plan, Reply, answer, done, given, memory, plan, refused, setBoth, setDown}
 use Rattle.ground.specs.Tables.{Tables, tables}
 use Rattle.register.specs.Register.{slotBytes}
 use Rattle.kits.specs.Kits.{listFaults, units}
 use Rattle.nodes.specs.Nodes.{mostNodes, wordsPerNode}
-use Rattle.nodes.specs.Held.{Kit, dropKit, inOrder, tagsOf}
+use Rattle.nodes.specs.Held.{Kit, dropKit, firstTag, inOrder, tagsOf}
 use Rattle.shortfalls.specs.Shortfalls.{isAlmost, mostShort, shortsOf}
+use Rattle.pages.specs.Pages.{comesAfter, goodBookmark, movedOn, rowShown}
+use Rattle.pages.specs.declared.Bookmark.{Bookmark}
 use Rattle.sheet.specs.Bytes.{Bytes}
 use Rattle.sheet.specs.Sheet.{Contents, withoutEmpty}
 use Rattle.sheet.specs.Reading.{decode, said}
 use Rattle.catalogue.specs.Calls.{Call, Question, allAlmost, allContaining, allWithin, anyContaining, anyWithin, contents, countKits, deleteKit}
-use Rattle.catalogue.specs.Calls.{emptyBoth, findKit, insertKit, lookUp, planOf, readSheet, registerPart, showAt, writeSheet}
+use Rattle.catalogue.specs.Calls.{emptyBoth, findKit, insertKit, lookUp, planOf, readSheet, registerPart, showAt, turnContaining, turnWithin, writeSheet}
 
 abbrev pub has : List (List ℕ) → List Kit → Contents
 has ps ks = record { parts = ps; kits = ks }
@@ -41,6 +44,8 @@ accepted (anyContaining l) m = m
 accepted (allWithin l o) m = m
 accepted (allContaining l o) m = m
 accepted (allAlmost d l o) m = m
+accepted (turnWithin l b) m = m
+accepted (turnContaining l b) m = m
 accepted (writeSheet o) m = m
 accepted (readSheet s) m = withoutEmpty (said (decode s))
 
@@ -121,3 +126,9 @@ abbrev pub almostOf : ℕ → List ℕ → Contents → Both → Plan Both
 almostOf d bin m o =
     let ks = answering (isAlmost d) bin m in
     setBoth (listFaults (length (m .parts)) bin ++ (given (ltb mostShort d) 14 0 ∷ [])) (tagsOf ks) (shortsOf (units bin) ks) o
+
+-- the page behind a bookmark: the first of those that answer and come after its row
+abbrev pub pageOf : Question → List ℕ → Contents → Bookmark → Plan Bookmark
+pageOf question l m b =
+    let ks = keep (comesAfter (rowShown b)) (answering question l m) in
+    plan (listFaults (length (m .parts)) l ++ (given (not (goodBookmark (length (m .parts)) b)) 15 0 ∷ [])) (firstTag ks) (movedOn b ks)

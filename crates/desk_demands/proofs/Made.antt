@@ -17,7 +17,8 @@ use Rattle.nodes.proofs.Sorted.{Every, none as no-more, also, every-mem, every-
 use Rattle.sheet.specs.Bytes.{Bytes}
 use Rattle.questions.specs.Questions.{isWithin, isContaining}
 use Rattle.catalogue.specs.Calls.{Call, emptyBoth, registerPart, lookUp, showAt, insertKit, findKit, deleteKit, anyWithin, anyContaining}
-use Rattle.catalogue.specs.Calls.{countKits, allWithin, allContaining, allAlmost, writeSheet, readSheet, planOf, inserting, finding, deleting, anyKit}
+use Rattle.catalogue.specs.Calls.{countKits, allWithin, allContaining, allAlmost, turnWithin, turnContaining, writeSheet, readSheet, planOf}
+use Rattle.catalogue.specs.Calls.{inserting, finding, deleting, anyKit}
 use Rattle.demands.specs.Model.{run, Allowed, begun, tablesOf}
 use Rattle.demands.specs.Demand3.{Writes}
 use Rattle.demands.proofs.Sheets.{sheets-tell}
@@ -180,6 +181,8 @@ Fit (anyContaining l) = Unit
 Fit (allWithin l o) = Unit
 Fit (allContaining l o) = Unit
 Fit (allAlmost d l o) = Unit
+Fit (turnWithin l b) = Unit
+Fit (turnContaining l b) = Unit
 Fit (writeSheet o) = Unit
 Fit (readSheet s) = Bytes s
 

@@ -13,7 +13,7 @@ use Rattle.nodes.specs.Held.{tagsOf}
 use Rattle.questions.specs.Questions.{isWithin, isContaining}
 use Rattle.sheet.specs.Sheet.{Contents, encode}
 use Rattle.catalogue.specs.Calls.{Call, emptyBoth, registerPart, lookUp, showAt, insertKit, findKit, deleteKit, anyWithin, anyContaining}
-use Rattle.catalogue.specs.Calls.{countKits, allWithin, allContaining, allAlmost, writeSheet, readSheet}
+use Rattle.catalogue.specs.Calls.{countKits, allWithin, allContaining, allAlmost, turnWithin, turnContaining, writeSheet, readSheet}
 use Rattle.demands.specs.Model.{Allowed, tablesOf, entered, listedIn, answering}
 use Rattle.demands.specs.Demand1.{told}
 use Rattle.demands.specs.Demand3.{Writes, Agree}
@@ -55,6 +55,8 @@ shownFor m (countKits l) = []
 shownFor m (anyWithin l) = []
 shownFor m (anyContaining l) = []
 shownFor m (allAlmost d l o) = []
+shownFor m (turnWithin l b) = []
+shownFor m (turnContaining l b) = []
 shownFor m (readSheet s) = []
 
 -- "A reply line is letter, number, value", and what is shown "when done": the reply of a desk that has m to a call, with the letter x

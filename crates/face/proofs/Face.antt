@@ -1,18 +1,22 @@
 -- A promise below, and its answer taken apart, are what the face promises; and the stretch that shows a number, by numbers.
 use mathlib.Core.Path.{_≡_, refl, sym, ap, subst, _∙_}
-use mathlib.Core.Bool.{true}
+use mathlib.Core.Bool.{Bool, true, false, cond, not}
 use mathlib.Core.List.{List}
 use Prim.Native.Nat.{ℕ, _+_, _-_, _*_, _<_, _≤_}
 use native.Mathlib.Omega.{arith}
 use lib.ListN.{length, take, drop, getD, length-drop}
 use lib.Seq.{length-take-le}
+use borrow.Author.Tests.{eqb-true}
+use mir.Val.{boolByte}
+use Rattle.ground.specs.Lists.{isZero}
 use Rattle.ground.specs.Calls.{Plan, Reply, done, refused, answer, leaves, numberOf, valueOf, isRefused, Promise}
-use Rattle.ground.proofs.Calls.{leaves-done, refused-leaves}
+use Rattle.ground.proofs.Calls.{leaves-done, refused-leaves, promise-part}
 use Rattle.register.specs.Register.{partsOf, slotBytes}
 use Rattle.register.specs.Calls.{showing, stretchFrom, stretchSize}
 use Rattle.register.proofs.Sound.{ready-short}
 use Rattle.register.proofs.Answers.{shows}
-use Rattle.face.specs.Face.{Handed, Crosses}
+use Rattle.pages.specs.declared.Bookmark.{Bookmark}
+use Rattle.face.specs.Face.{Handed, Crosses, LentMark, lentMark, markOf, setTo, overLent}
 
 -- what is handed over is what the plan answers
 pub handed-answer : {r s : Reply} {n v : ℕ} → Handed r n v → r ≡ s → Handed s n v
@@ -25,6 +29,29 @@ crossed p h = record { answers = handed-answer h (p .answers); lent = p .lent }
 -- a reply that the plan answers is as small as the plan's
 pub reply-small : {r s : Reply} (b : ℕ) → r ≡ s → valueOf s < b → valueOf r < b
 reply-small b e l = subst (λ x. valueOf x < b) (sym e) l
+
+-- a Bool as a number
+pub bool-number : (t : Bool) → boolByte t ≡ cond t 1 0
+bool-number true = refl
+bool-number false = refl
+
+-- a lent bookmark that is set to what it is stays as it is
+same-begun : (n : ℕ) → cond (isZero n) (cond (not (isZero n)) 1 0) n ≡ n
+same-begun n = go (isZero n) refl
+  where
+    go : (b : Bool) → isZero n ≡ b → cond b (cond (not b) 1 0) n ≡ n
+    go true e = sym (eqb-true n 0 e)
+    go false e = refl
+
+set-same : (p : LentMark) → setTo p (markOf p) ≡ p
+set-same p = ap (λ (n : ℕ). lentMark n (p .len) (p .places)) (same-begun (p .begun))
+
+-- the promise on a bookmark, where it is lent taken apart
+pub crossed-mark : (call : Bookmark → Plan Bookmark) (p q : LentMark) (b m : Bookmark) {r : Reply} {n v : ℕ} → b ≡ markOf p →
+    q ≡ setTo p m → Promise (call b) b r m → Handed r n v → Crosses (overLent call) p n v q
+crossed-mark call p q b m {r} is set h handed =
+    let k = promise-part (setTo p) (call (markOf p)) (markOf p) r m (subst (λ (x : Bookmark). Promise (call x) x r m) is h) in
+    crossed (subst (λ (x : LentMark). Promise (overLent call p) x r q) (set-same p) (rw set k)) handed
 
 -- where a stretch starts
 pub from-refused : (p : ℕ) (R : List ℕ) (r : Reply) → r ≡ answer (showing p R) → isRefused r ≡ true → 0 ≡ stretchFrom p R

@@ -2,19 +2,25 @@
 // contract is the call's full promise, answer and every lent word, and its body is the call: what a call below no longer promises fails to prove here.
 // The number of the answer is returned, its value goes out through `value`; a slice is a pointer and then how many elements it has.
 ghost use mathlib.Core.Path.{_≡_};
+ghost use mathlib.Core.Bool.{cond};
 ghost use Prim.Native.Nat.{_<_, _^_};
+ghost use Rattle.ground.specs.Lists.{isZero};
 ghost use Rattle.ground.specs.Calls.{answer, valueOf, both};
 ghost use Rattle.ground.specs.Stretch.{Stretch};
 ghost use Rattle.ground.specs.Tables.{tables};
 ghost use Rattle.answers.specs.Answers.{reply};
 ghost use Rattle.register.specs.Calls.{registering, lookingUp, showing, stretchFrom, stretchSize};
 ghost use Rattle.questions.specs.Questions.{isWithin, isContaining};
-ghost use Rattle.catalogue.specs.Calls.{emptying, inserting, finding, deleting, counting, anyKit, allKits, almostKits, writing, reading};
-ghost use Rattle.face.specs.Face.{Handed, Crosses};
+ghost use Rattle.catalogue.specs.Calls.{emptying, inserting, finding, deleting, counting, anyKit, allKits, almostKits, turning, writing, reading};
+ghost use Rattle.face.specs.Face.{Handed, Crosses, lentMark, markOf, setTo, overLent};
 use answers::Answer;
 use answers::refused;
 use answers::reply_of;
 use ground::wide16;
+use kits::MOST_UNITS;
+use kits::Row;
+use pages::Bookmark;
+use pages::Page;
 use register::SLOT_BYTES;
 
 // An answer taken apart: "Each answer is a number (0 for done) and a value below 2^32".
@@ -200,6 +206,92 @@ pub extern "C" fn padrisk_all_almost(
         catalogue::all_almost(reg, nodes, bin, d, tags, shorts),
         value,
     )
+}
+
+// The bookmark that C lends taken apart.
+fn mark_of(begun: u8, len: usize, places: [u16; MOST_UNITS]) -> Bookmark
+    ensures { λ r. ⌜ r ≡ markOf (lentMark begun len places) ⌝ }
+{
+    let row = Row {
+        places: places,
+        len: len,
+    };
+    Bookmark {
+        begun: begun != 0,
+        row: row,
+    }
+}
+
+// The number that says whether paging has begun, set to it: only 0 is ever changed.
+fn begun_as(begun: u8, goes: bool) -> u8
+    ensures { λ r. ⌜ r ≡ cond (isZero begun) (cond goes 1 0) begun ⌝ }
+{
+    if begun == 0 {
+        return goes as u8;
+    }
+    begun
+}
+
+// A page taken apart: its answer, and its bookmark set down where it was lent.
+fn hand_page(
+    page: Page,
+    begun: &mut u8,
+    len: &mut usize,
+    places: &mut [u16; MOST_UNITS],
+    value: &mut u32,
+) -> u8
+    requires { ⌜ valueOf (reply (page .answer)) < 2 ^ 32 ⌝ }
+    ensures { λ r. ⌜ Handed (reply (page .answer)) r (now (value .exit)) ⌝ ∗ ⌜ lentMark (now (begun .exit)) (now (len .exit)) (now (places .exit))
+        ≡ setTo (lentMark (now (begun .entry)) (now (len .entry)) (now (places .entry))) (page .mark) ⌝ }
+{
+    let mark = page.mark;
+    let row = mark.row;
+    *begun = begun_as(*begun, mark.begun);
+    *len = row.len;
+    let shown = row.places;
+    *places = shown;
+    let answer = page.answer;
+    hand_over(answer, value)
+}
+
+// Turns to the next kit within the bin: its tag, or 0 when none is left. The bookmark is lent taken apart, and moved on in place.
+#[no_mangle]
+pub extern "C" fn padrisk_turn_within(
+    reg: &[u8],
+    nodes: &[u16],
+    bin: &[u16],
+    begun: &mut u8,
+    len: &mut usize,
+    places: &mut [u16; MOST_UNITS],
+    value: &mut u32,
+) -> u8
+    ensures { λ r. ⌜ Crosses (overLent (turning isWithin (now (bin .entry)) (tables (now (reg .entry)) (now (nodes .entry)))))
+        (lentMark (now (begun .entry)) (now (len .entry)) (now (places .entry))) r (now (value .exit))
+        (lentMark (now (begun .exit)) (now (len .exit)) (now (places .exit))) ⌝ }
+{
+    let mark = mark_of(*begun, *len, *places);
+    let page = catalogue::page_within(reg, nodes, bin, mark);
+    hand_page(page, begun, len, places, value)
+}
+
+// Turns to the next kit containing the list, alike.
+#[no_mangle]
+pub extern "C" fn padrisk_turn_containing(
+    reg: &[u8],
+    nodes: &[u16],
+    list: &[u16],
+    begun: &mut u8,
+    len: &mut usize,
+    places: &mut [u16; MOST_UNITS],
+    value: &mut u32,
+) -> u8
+    ensures { λ r. ⌜ Crosses (overLent (turning isContaining (now (list .entry)) (tables (now (reg .entry)) (now (nodes .entry)))))
+        (lentMark (now (begun .entry)) (now (len .entry)) (now (places .entry))) r (now (value .exit))
+        (lentMark (now (begun .exit)) (now (len .exit)) (now (places .exit))) ⌝ }
+{
+    let mark = mark_of(*begun, *len, *places);
+    let page = catalogue::page_containing(reg, nodes, list, mark);
+    hand_page(page, begun, len, places, value)
 }
 
 // Writes the sheet at the start of the output: the bytes written.

@@ -8,11 +8,11 @@ use native.Mathlib.Omega.{arith}
 use lib.ListN.{length, getD, take, drop, length-drop, drop-of-length-le, take-append-drop}
 use lib.Seq.{drop-cons, take-append-seam}
 use lib.Dec.{ltb, eqb}
-use borrow.Author.Tests.{eq-eqb, le-ltb, ltb-false}
+use borrow.Author.Tests.{eq-eqb, ltb-false}
 use Rattle.ground.proofs.Laws.{or-left, le-or}
 use Rattle.kits.specs.Kits.{mostPlace, before}
 use Rattle.kits.specs.Inner.{GoodRow, agreed}
-use Rattle.kits.proofs.Order.{agreed-same}
+use Rattle.kits.proofs.Order.{before-along, agreed-same}
 use Rattle.kits.proofs.Rows.{agreed-left}
 use Rattle.nodes.specs.Nodes.{parent, child, next, label, depth, size, rowOf}
 use Rattle.nodes.specs.Inner.{Used, Live, Shape}
@@ -21,12 +21,6 @@ use Rattle.index_insert.specs.Enter.{enterBelow, lacks}
 use Rattle.index_insert.proofs.Entered.{lacks-new, lacks-none}
 use Rattle.index_append.specs.Inner.{Edge, top, below, LastChild, Appendable, Agrees, Appends}
 use Rattle.index_append.proofs.Places.{behind-new, enter-down, lacks-down, edge-live}
-
--- a common beginning does not tell
-before-common : (m a b : List ℕ) → before (m ++ a) (m ++ b) ≡ before a b
-unfolding before
-before-common [] a b = refl
-before-common (x ∷ m) a b = rw (le-ltb x x (omega arith), eq-eqb x x refl) (before-common m a b)
 
 -- a row that is not before another and does not go on as it does has a greater label
 departed-greater : (rest under tail : List ℕ) (y : ℕ) → before rest under ≡ false → under ≡ y ∷ tail →
@@ -38,7 +32,7 @@ departed-greater (l ∷ ls) under tail y e u n =
     let d : l ≢ y = λ q. n ls (ap (λ (x : ℕ). x ∷ ls) q) in
     (omega arith, omega arith)
 
--- nor does it count less
+-- a common beginning counts whole
 agreed-common : (m a b : List ℕ) → agreed (m ++ a) (m ++ b) ≡ length m + agreed a b
 unfolding agreed
 agreed-common [] a b = omega arith
@@ -139,7 +133,7 @@ module _ {N row : List ℕ} {n k : ℕ} (R : Agrees N n row k) where
 
       after : before (drop k row) (C .under) ≡ false
       after =
-          sym (before-common (rowOf N p) (drop k row) (C .under)) ∙ ap₂ before fork-is (sym (C .last-row)) ∙ A .order
+          sym (before-along (rowOf N p) (drop k row) (C .under)) ∙ ap₂ before fork-is (sym (C .last-row)) ∙ A .order
 
       -- the row does not go on as the last one
       other : (y : ℕ) (tail ls : List ℕ) → C .under ≡ y ∷ tail → drop k row ≡ y ∷ ls → ⊥

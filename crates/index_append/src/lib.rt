@@ -3,8 +3,7 @@
 ghost use mathlib.Core.Path.{_≡_};
 ghost use Prim.Native.Nat.{_≤_};
 ghost use lib.ListN.{drop};
-ghost use Rattle.kits.specs.Kits.{mostUnits};
-ghost use Rattle.kits.specs.Inner.{unitsIn};
+ghost use Rattle.kits.specs.Kits.{mostUnits, unitsIn};
 ghost use Rattle.index_insert.specs.Enter.{enterBelow, enter};
 ghost use Rattle.index_append.specs.Inner.{LastEntered, Appendable, Agrees, Appends};
 use index_links::link_behind;

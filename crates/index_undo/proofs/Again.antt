@@ -13,7 +13,7 @@ use Rattle.nodes.specs.Sound.{tallyGood, usedOthers, nodesSound}
 use Rattle.index_links.specs.Links.{hasLabel, childWith, lastBelow, linkTo, link, unlink, nodeOf, recount}
 use Rattle.index_insert.specs.Enter.{lowestFree, enterBelow, enter}
 use Rattle.index_delete.specs.Strike.{prune, strikeAt, strike}
-use Rattle.index_undo.specs.Undone.{behindAFreeNode, atTheFirst, EnteredAgain}
+use Rattle.index_undo.specs.Inner.{behindAFreeNode, atTheFirst, EnteredAgain}
 
 pub entered-again : EnteredAgain
 unfolding allb anyb every keep distinct from firstOr laid count nodesOf othersOf zeroWord isFree isUsed usedNodes tagged path rowOf chain children

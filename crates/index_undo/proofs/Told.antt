@@ -15,7 +15,7 @@ use Rattle.nodes.proofs.Order.{one-node}
 use Rattle.nodes.proofs.Held.{tag-of-row}
 use Rattle.nodes.proofs.Beginnings.{Begun, used-begun, begun-used}
 use Rattle.nodes.proofs.Tallies.{tally-counts}
-use Rattle.index_undo.specs.Told.{KeepsRows, ToldByRows}
+use Rattle.index_undo.specs.Inner.{KeepsRows, ToldByRows}
 use Rattle.index_undo.proofs.Siblings.{LeastAbove, child-least, next-least}
 
 -- what holds of each word of a node

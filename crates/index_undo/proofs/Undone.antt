@@ -21,7 +21,7 @@ use Rattle.index.proofs.Answers.{find-some, find-none}
 use Rattle.index.proofs.Kept.{Accepted, accepted, insert-sound, insert-length, insert-used, insert-rows, held-after-insert}
 use Rattle.index.proofs.Kept.{delete-sound, delete-length, delete-rows, held-after-delete}
 use Rattle.index_counts.proofs.Freed.{stays-exactly}
-use Rattle.index_undo.specs.Undone.{StrikingUndoes, entering, deletingNext, DeletedAtOnce}
+use Rattle.index_undo.specs.Inner.{StrikingUndoes, entering, deletingNext, DeletedAtOnce}
 use Rattle.index_undo.proofs.Told.{told-by-rows}
 
 module _ {parts : ℕ} {N r : List ℕ} {t : ℕ} (So : Sound parts N) (G : GoodRow parts r) (g : 0 < t) (A : Accepted r t N) where

@@ -1,3 +1,2 @@
 -- What tells a sound table word for word; a kit that is entered and deleted at once, and that the converse does not hold.
-pub mod Told
-pub mod Undone
+pub mod Inner

@@ -2,13 +2,12 @@
 -- Good rows, rows of 64 places, and inclusion decided label by label.
 use mathlib.Core.Path.{_≡_}
 use mathlib.Core.Bool.{Bool, true, false, _&&_, cond}
-use mathlib.Core.List.{List, [], _∷_, _++_, map}
-use Prim.Native.Nat.{ℕ, suc, _+_, _≤_, _<_, _-_}
-use lib.ListN.{length, replicate, getD, take}
+use mathlib.Core.List.{List, [], _∷_, map}
+use Prim.Native.Nat.{ℕ, suc, _+_, _≤_, _<_}
+use lib.ListN.{length, getD}
 use lib.Dec.{ltb, eqb}
 use Rattle.ground.specs.Lists.{eqList, from}
 use Rattle.kits.specs.Kits.{mostQuantity, mostUnits, mostPlace, count, before}
-use Rattle.kits.specs.declared.Row.{Row}
 use Rattle.kits.specs.declared.Compared.{Compared}
 use Rattle.kits.specs.declared.Compared.the-variants.{Before, Same, After}
 
@@ -43,14 +42,6 @@ pub record GoodRow (n : ℕ) (r : List ℕ) : Type 0 where
 
 ------------------------------------------------------------------------
 -- A kit "held once a checked list as a fixed row of 64 places with its length": rows, and their order
-
--- the row of some units; what lies behind them is 0
-abbrev pub fixedRow : List ℕ → Row
-fixedRow us = record { places = us ++ replicate (mostUnits - length us) 0; len = length us }
-
--- the units of a row
-abbrev pub unitsIn : Row → List ℕ
-unitsIn r = take (r .len) (r .places)
 
 -- how two rows of units stand in listing order
 unfoldable pub compared : List ℕ → List ℕ → Compared

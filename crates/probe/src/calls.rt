@@ -1,4 +1,8 @@
 // The letters: each makes one call, on what it needs of the memory lent. A new letter is a line of `call`.
+use crate::marks::BEGUN;
+use crate::marks::MARK_WORDS;
+use crate::marks::mark_in;
+use crate::marks::put_mark;
 use crate::reading::Request;
 use answers::Answer;
 use answers::reply_of;
@@ -15,9 +19,10 @@ pub struct Told {
     pub third: usize,
 }
 
+// What a request comes to: an unknown letter, or a K that holds no bookmark where one is turned, breaks it.
 pub enum Called {
     Answers(Told),
-    Unknown,
+    Broken,
 }
 
 fn tells(a: Answer) -> Called {
@@ -28,6 +33,26 @@ fn tells(a: Answer) -> Called {
         second: 0,
         third: 0,
     })
+}
+
+// The next page of the kits within the bin, or of those containing the list, with the bookmark moved on where it stands.
+fn turns(reg: &[u8], nodes: &[u16], list: &[u16], mark: &mut [u16], containing: bool) -> Called {
+    if mark.len() != MARK_WORDS {
+        return Called::Broken;
+    }
+    if BEGUN < mark[0] {
+        return Called::Broken;
+    }
+    let before = mark_in(mark);
+    let page = if containing {
+        catalogue::page_containing(reg, nodes, list, before)
+    } else {
+        catalogue::page_within(reg, nodes, list, before)
+    };
+    let after = page.mark;
+    put_mark(mark, after);
+    let answer = page.answer;
+    tells(answer)
 }
 
 pub fn call(
@@ -60,7 +85,9 @@ pub fn call(
         b'a' => tells(catalogue::all_almost(reg, nodes, list, ask.a, places, seconds)),
         b's' => tells(catalogue::write_sheet(reg, nodes, output)),
         b'r' => tells(catalogue::read_sheet(reg, nodes, input)),
-        _ => Called::Unknown,
+        b'g' => turns(reg, nodes, list, mark, false),
+        b'G' => turns(reg, nodes, list, mark, true),
+        _ => Called::Broken,
     }
 }
 

@@ -4,17 +4,19 @@
 // call is lent. A block is the count of its elements in four bytes, and then the elements: bytes in R, M, I and O, words of
 // two bytes in the others. An answer is its number in a byte, its value and two more numbers in four bytes each, and the
 // blocks R M N P Q O K D as they stand after the call. Every number has the high byte first. Nothing is kept from one request
-// to the next. A broken request, one that is cut short, has an unknown letter or a block larger than its room, is answered by
-// the one byte 255 and ends the program.
+// to the next. A broken request, one that is cut short, has an unknown letter, a block larger than its room or, to turn a
+// page, no bookmark in K, is answered by the one byte 255 and ends the program.
 ghost use Prim.Native.Nat.{_<_};
 
 mod calls;
+mod marks;
 mod numbers;
 mod reading;
 mod writing;
 
 use calls::Called;
 use calls::call;
+use marks::MARK_WORDS;
 use reading::Next;
 use reading::Request;
 use reading::read_bytes;
@@ -23,7 +25,7 @@ use reading::read_words;
 use writing::write_answer;
 use writing::write_broken;
 
-// How many elements of each block there is room for: R and M, N, L, I, P and Q, O, K, D.
+// How many elements of each block there is room for: R and M, N, L, I, P and Q, O, D. In K there is room for a bookmark.
 const REGISTER_ROOM: usize = 128064;
 
 const NODES_ROOM: usize = 28700;
@@ -35,8 +37,6 @@ const INPUT_ROOM: usize = 65536;
 const PLACES_ROOM: usize = 4200;
 
 const OUTPUT_ROOM: usize = 65536;
-
-const MARK_ROOM: usize = 66;
 
 const DRAWERS_ROOM: usize = 1024;
 
@@ -114,7 +114,7 @@ fn main() {
     let mut places = [0u16; PLACES_ROOM];
     let mut seconds = [0u16; PLACES_ROOM];
     let mut output = [0u8; OUTPUT_ROOM];
-    let mut mark = [0u16; MARK_ROOM];
+    let mut mark = [0u16; MARK_WORDS];
     let mut drawers = [0u16; DRAWERS_ROOM];
     let mut turns = u64::MAX;
     while turns > 0 {

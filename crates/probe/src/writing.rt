@@ -15,7 +15,7 @@ const HEAD_BYTES: usize = 13;
 
 const BROKEN: u8 = 255;
 
-// The answer to a request that is cut short, has an unknown letter or a block larger than its room.
+// The answer to a broken request.
 pub fn write_broken() {
     io::write_all(STDOUT_FILENO, &[BROKEN]);
 }

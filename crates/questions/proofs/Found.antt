@@ -1,10 +1,10 @@
--- The nodes that a walk finds, whatever its test: one step of it, where it may stop, how many there are, and which kits they are.
-use mathlib.Core.Path.{_≡_, refl, sym, ap, _∙_}
+-- The nodes that a walk finds, whatever its test: one step of it, where it may stop, how many there are, which is first, and which kits they are.
+use mathlib.Core.Path.{_≡_, refl, sym, ap, ap₂, _∙_}
 use mathlib.Core.Bool.{Bool, true, false, cond, not, _&&_}
 use mathlib.Core.List.{List, [], _∷_, _++_, map, append-assoc, append-nil, List·Memᴰ}
 use Prim.Native.Nat.{ℕ, zero, suc, _+_, _≤_, _<_}
 use native.Mathlib.Omega.{arith}
-use lib.ListN.{length, length-map}
+use lib.ListN.{length, getD, length-map}
 use lib.Dec.{eqb}
 use borrow.Author.Tests.{ne-eqb}
 use Rattle.ground.specs.Lists.{keep, from}
@@ -13,28 +13,37 @@ use Rattle.ground.proofs.Laws.{length-from}
 use Rattle.nodes.specs.Nodes.{mostNodes, parent, child, next, label, tag, tagged, size, rowOf}
 use Rattle.nodes.specs.Inner.{Used, Live, Shape, walk, walkAll}
 use Rattle.nodes.specs.Held.{Kit, tagsOf, kitAt, someUnit, held, listed}
-use Rattle.nodes.proofs.Sorted.{keep-append, keep-same, keep-short, no-longer, mem-from}
+use Rattle.nodes.proofs.Sorted.{Every, none, also, every-keep, keep-append, keep-same, keep-short, no-longer, mem-from}
 use Rattle.nodes.proofs.Rows.{climb, used-pos, live-inside, row-step}
 use Rattle.nodes.proofs.Walk.{walk-none, walk-some, ind}
-use Rattle.nodes.proofs.Order.{walk-once, walk-only}
+use Rattle.nodes.proofs.Order.{walked, walk-once, walk-only}
 use Rattle.nodes.proofs.Units.{listed-is-walk}
-use Rattle.questions.specs.Inner.{answers, foundFrom, foundIn, ifTag}
+use Rattle.questions.specs.Inner.{answers, foundFrom, firstFrom, foundIn, tagsFrom, ifTag}
 
--- a word of node i with the tag t, where the test b says yes
-kept-word : (f : ℕ → ℕ) (i : ℕ) (b : Bool) (t : ℕ) → map f (cond (b && not (eqb t 0)) (i ∷ []) []) ≡ ifTag (cond b t 0) (f i)
+-- node i with the tag t, where the test b says yes
+kept-node : (i : ℕ) (b : Bool) (t : ℕ) → cond (b && not (eqb t 0)) (i ∷ []) [] ≡ ifTag (cond b t 0) i
 unfolding ifTag
-kept-word f i true zero = refl
-kept-word f i true (suc t) = rw (ne-eqb (suc t) 0 (λ q. omega arith))
-kept-word f i false t = refl
+kept-node i true zero = refl
+kept-node i true (suc t) = rw (ne-eqb (suc t) 0 (λ q. omega arith))
+kept-node i false t = refl
+
+-- and a word of it
+pub word-of : (f : ℕ → ℕ) (t i : ℕ) → map f (ifTag t i) ≡ ifTag t (f i)
+unfolding ifTag
+word-of f zero i = refl
+word-of f (suc t) i = refl
 
 module _ {parts : ℕ} {N : List ℕ} (S : Shape parts N) (test : List ℕ → Bool) where
   -- the node itself, where a kit ends there that passes
   abbrev ownOf : ℕ → List ℕ
   ownOf i = keep (answers test N) (i ∷ [])
 
-  pub own-word : (f : ℕ → ℕ) (i : ℕ) → map f (keep (answers test N) (i ∷ [])) ≡ ifTag (cond (test (rowOf N i)) (tag N i) 0) (f i)
+  pub own-node : (i : ℕ) → keep (answers test N) (i ∷ []) ≡ ifTag (cond (test (rowOf N i)) (tag N i) 0) i
   unfolding keep answers tagged
-  own-word f i = kept-word f i (test (rowOf N i)) (tag N i)
+  own-node i = kept-node i (test (rowOf N i)) (tag N i)
+
+  pub own-word : (f : ℕ → ℕ) (i : ℕ) → map f (keep (answers test N) (i ∷ [])) ≡ ifTag (cond (test (rowOf N i)) (tag N i) 0) (f i)
+  own-word f i = ap (map f) (own-node i) ∙ word-of f (cond (test (rowOf N i)) (tag N i) 0) i
 
   own-dead : (i : ℕ) → ((s : List ℕ) → test (rowOf N i ++ s) ≡ false) → ownOf i ≡ []
   unfolding keep answers
@@ -61,32 +70,86 @@ module _ {parts : ℕ} {N : List ℕ} (S : Shape parts N) (test : List ℕ → B
       (λ i m. mem-from (size N) 0 i (omega arith) (omega (arith, live-inside (climb S) i (walk-only S i m)))) in
       rw e (omega (arith, keep-short (answers test N) (walk N (child N 0)), length-from 0 (size N), few, S .sized .most))
 
+-- Two tests that agree on every row that goes on from the node above a link, with its label or a greater one, find the same from there
+module _ {parts : ℕ} {N : List ℕ} (S : Shape parts N) (one other : List ℕ → Bool) where
+  own-alike : (i : ℕ) → one (rowOf N i) ≡ other (rowOf N i) → keep (answers one N) (i ∷ []) ≡ keep (answers other N) (i ∷ [])
+  unfolding keep answers
+  own-alike i e = rw e
+
+  pub found-alike : (i : ℕ) → Live N i →
+      (0 < i → (x : ℕ) (s : List ℕ) → label N i ≤ x → x ≤ parts →
+      one (rowOf N (parent N i) ++ (x ∷ s)) ≡ other (rowOf N (parent N i) ++ (x ∷ s))) →
+      foundFrom one N i ≡ foundFrom other N i
+  found-alike i l =
+      ind S (λ (i : ℕ). (0 < i → (x : ℕ) (s : List ℕ) → label N i ≤ x → x ≤ parts →
+      one (rowOf N (parent N i) ++ (x ∷ s)) ≡ other (rowOf N (parent N i) ++ (x ∷ s))) → foundFrom one N i ≡ foundFrom other N i)
+      (λ h. found-none S one ∙ sym (found-none S other))
+      (λ i u c n h.
+      let p = used-pos (climb S) i u in
+      let on : (s : List ℕ) → rowOf N i ++ s ≡ rowOf N (parent N i) ++ (label N i ∷ s) =
+      λ s. ap (λ r. r ++ s) (row-step (climb S) i u) ∙ append-assoc (rowOf N (parent N i)) (label N i ∷ []) s in
+      let e : (s : List ℕ) → one (rowOf N i ++ s) ≡ other (rowOf N i ++ s) =
+      λ s. ap one (on s) ∙ h p (label N i) s (omega arith) (S .good i u .place) ∙ ap other (sym (on s)) in
+      let own : one (rowOf N i) ≡ other (rowOf N i) =
+      ap one (sym (append-nil (rowOf N i))) ∙ e [] ∙ ap other (append-nil (rowOf N i)) in
+      let below : foundFrom one N (child N i) ≡ foundFrom other N (child N i) = c
+      (λ q x s g b. rw (S .head i (u .inside) .back q) (e (x ∷ s))) in
+      let behind : foundFrom one N (next N i) ≡ foundFrom other N (next N i) = n
+      (λ q x s g b. rw (S .good i u .same q) (h p x s (omega (arith, S .good i u .greater q)) b)) in
+      found-step S one i u ∙ ap₂ _++_ (own-alike i own) (ap₂ _++_ below behind) ∙ sym (found-step S other i u))
+      i l
+
+-- a test that nothing passes finds nothing
+never-found : (N xs : List ℕ) → keep (answers (λ (r : List ℕ). false) N) xs ≡ []
+unfolding keep answers
+never-found N [] = refl
+never-found N (x ∷ xs) = never-found N xs
+
+module _ {parts : ℕ} {N : List ℕ} (S : Shape parts N) (test : List ℕ → Bool) where
   -- where no row passes that goes on from the node above with a label of at least this one, none does here, below or behind
   pub found-dead : (i : ℕ) → Live N i →
       (0 < i → (x : ℕ) (s : List ℕ) → label N i ≤ x → x ≤ parts → test (rowOf N (parent N i) ++ (x ∷ s)) ≡ false) → foundFrom test N i ≡ []
-  found-dead i l =
-      ind S (λ (i : ℕ). (0 < i → (x : ℕ) (s : List ℕ) → label N i ≤ x → x ≤ parts → test (rowOf N (parent N i) ++ (x ∷ s)) ≡ false) →
-      foundFrom test N i ≡ [])
-      (λ h. found-none)
-      (λ i u c n h.
-      let p = used-pos (climb S) i u in
-      let e : (s : List ℕ) → test (rowOf N i ++ s) ≡ false =
-      λ s. ap test (ap (λ r. r ++ s) (row-step (climb S) i u) ∙ append-assoc (rowOf N (parent N i)) (label N i ∷ []) s) ∙ h p (label N i) s
-      (omega arith) (S .good i u .place) in
-      let below : foundFrom test N (child N i) ≡ [] = c
-      (λ q x s g b. ap (λ r. test (r ++ (x ∷ s))) (ap (rowOf N) (S .head i (u .inside) .back q)) ∙ e (x ∷ s)) in
-      let behind : foundFrom test N (next N i) ≡ [] = n
-      (λ q x s g b. ap (λ r. test (r ++ (x ∷ s))) (ap (rowOf N) (S .good i u .same q)) ∙ h p x s (omega (arith, S .good i u .greater q))
-      b) in
-      rw (found-step i u, own-dead i e, below, behind))
-      i l
+  unfolding foundFrom
+  found-dead i l h = found-alike S test (λ (r : List ℕ). false) i l h ∙ never-found N (walk N i)
 
   -- where no row passes that goes on from a node, what is found is behind it
   pub found-past : (i : ℕ) → Used N i → ((s : List ℕ) → test (rowOf N i ++ s) ≡ false) → foundFrom test N i ≡ foundFrom test N (next N i)
   found-past i u e =
       let below : foundFrom test N (child N i) ≡ [] = found-dead (child N i) (λ q. S .head i (u .inside) .first q)
       (λ q x s g b. ap (λ r. test (r ++ (x ∷ s))) (ap (rowOf N) (S .head i (u .inside) .back q)) ∙ e (x ∷ s)) in
-      rw (found-step i u, own-dead i e, below)
+      rw (found-step S test i u, own-dead S test i e, below)
+
+  -- What is found from a link on: used nodes, so that a node found is not 0
+  module _ {i : ℕ} (l : Live N i) where
+    pub found-used : Every (Used N) (foundFrom test N i)
+    unfolding foundFrom
+    found-used = every-keep (answers test N) (walk N i) (walked S i l .used)
+
+    pub first-live : Live N (firstFrom test N i)
+    first-live = go found-used
+      where
+        go : {xs : List ℕ} → Every (Used N) xs → Live N (getD xs 0 0)
+        go none g = absurd (omega arith)
+        go (also u e) g = u
+
+    pub first-inside : {a : ℕ} → a ≡ firstFrom test N i → a < size N
+    first-inside e = rw e (live-inside (climb S) (firstFrom test N i) first-live)
+
+    -- where the first is 0 there is none
+    pub first-none : firstFrom test N i ≡ 0 → foundFrom test N i ≡ []
+    first-none = go found-used
+      where
+        go : {xs : List ℕ} → Every (Used N) xs → getD xs 0 0 ≡ 0 → xs ≡ []
+        go none z = refl
+        go (also {x = x} u e) z = absurd (omega (arith, used-pos (climb S) x u))
+
+    -- the first tag is that of the first node
+    pub tag-of-first : {a : ℕ} → a ≡ firstFrom test N i → getD (tagsFrom test N i) 0 0 ≡ cond (eqb a 0) 0 (tag N a)
+    tag-of-first e = rw e (go found-used)
+      where
+        go : {xs : List ℕ} → Every (Used N) xs → getD (map (tag N) xs) 0 0 ≡ cond (eqb (getD xs 0 0) 0) 0 (tag N (getD xs 0 0))
+        go none = refl
+        go (also {x = x} u e) = rw (ne-eqb x 0 (λ z. omega (arith, used-pos (climb S) x u)))
 
 -- From nodes to kits: a test of rows, on kits
 onRow : (List ℕ → Bool) → Kit → Bool

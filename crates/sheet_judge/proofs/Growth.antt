@@ -12,16 +12,16 @@ use lib.Dec.{ltb, eqb}
 use lib.Seq.{take-take}
 use borrow.Author.Tests.{ltb-true, eqb-true, eq-eqb}
 use Rattle.ground.specs.Lists.{from}
-use Rattle.ground.proofs.Laws.{and-left, and-right, below-or, length-map-from}
+use Rattle.ground.proofs.Laws.{and-left, below-or, length-map-from}
 use Rattle.kits.specs.Kits.{before}
 use Rattle.kits.specs.Inner.{agreed}
 use Rattle.kits.proofs.Rows.{agreed-left, agreed-right, agreed-none}
-use Rattle.kits.proofs.Order.{agreed-same, before-transitive}
+use Rattle.kits.proofs.Order.{agreed-same}
 use Rattle.nodes.specs.Held.{Kit, allBeginnings}
-use Rattle.nodes.proofs.Sorted.{Rising, mem-every, rising-append, rising-refine, rising-mapped, rising-from, from-mem, mem-from, no-longer}
+use Rattle.nodes.proofs.Sorted.{Rising, every-mem, mem-every, rising-append, rising-refine, rising-mapped, rising-from, from-mem, mem-from, no-longer}
 use Rattle.nodes.proofs.Beginnings.{Part, Begun, beginnings-differ, beginnings-begun, begun-beginnings}
 use Rattle.sheet.specs.Inner.{rising}
-use Rattle.sheet.proofs.Emptied.{rising-tail}
+use Rattle.sheet.proofs.Fits.{rising-tail, rising-before}
 use Rattle.sheet_judge.specs.Inner.{growth}
 
 -- what two rows share, a row between them shares
@@ -68,16 +68,6 @@ unfoldable pub firstRow : List Kit → List ℕ
 firstRow [] = []
 firstRow (k ∷ ks) = k .row
 
--- in listing order, each kit but the first comes after the first
-later : (h : Kit) (ks : List Kit) → rising (h ∷ ks) ≡ true → (w : Kit) → List·Memᴰ w ks → before (h .row) (w .row) ≡ true
-unfolding rising
-later h [] r w m = absurd (List·Memᴰ·not-nil m)
-later h (k ∷ ks) r w m =
-    let a : before (h .row) (k .row) ≡ true = and-left (before (h .row) (k .row)) (rising (k ∷ ks)) r in
-    ⊎-elim (λ (e : w ≡ k). rw e a)
-    (λ j. before-transitive (h .row) (k .row) (w .row) a (later k ks (and-right (before (h .row) (k .row)) (rising (k ∷ ks)) r) w j))
-    (List·Memᴰ·cases-cons m)
-
 -- the beginnings of r of more than a units
 abbrev longer : List ℕ → ℕ → List (List ℕ)
 longer r a = map (λ (i : ℕ). take i r) (from (suc a) (length r - a))
@@ -111,7 +101,7 @@ shares : (r : List ℕ) (h : Kit) (t : List Kit) → before r (h .row) ≡ true 
     List·Memᴰ w (h ∷ t) → i ≤ length (w .row) → take i r ≡ take i (w .row) → i ≤ agreed r (h .row)
 shares r h t b s i u w m v e = ⊎-elim
     (λ (q : w ≡ h). share i r (h .row) u (rw (← q) v) (rw (← q) e))
-    (λ j. between i r (h .row) (w .row) b (later h t s w j) u e)
+    (λ j. between i r (h .row) (w .row) b (every-mem (rising-before h t s) j) u e)
     (List·Memᴰ·cases-cons m)
 
 nearest : (k : Kit) (ks : List Kit) → rising (k ∷ ks) ≡ true → (i : ℕ) → i ≤ length (k .row) → (w : Kit) → List·Memᴰ w ks →
@@ -119,8 +109,7 @@ nearest : (k : Kit) (ks : List Kit) → rising (k ∷ ks) ≡ true → (i : ℕ)
 unfolding rising firstRow
 nearest k [] s i u w m v e = absurd (List·Memᴰ·not-nil m)
 nearest k (h ∷ t) s i u w m v e =
-    shares (k .row) h t (and-left (before (k .row) (h .row)) (rising (h ∷ t)) s) (and-right (before (k .row) (h .row)) (rising (h ∷ t)) s) i
-    u w m v e
+    shares (k .row) h t (and-left (before (k .row) (h .row)) (rising (h ∷ t)) s) (rising-tail k (h ∷ t) s) i u w m v e
 
 first-begun : (r : List ℕ) (ks : List Kit) (i : ℕ) → 0 < i → i ≤ agreed r (firstRow ks) → Begun ks (take i r)
 unfolding firstRow

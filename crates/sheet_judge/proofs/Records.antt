@@ -11,8 +11,8 @@ use Rattle.ground.specs.Limits.{twoLimit}
 use Rattle.ground.specs.Lists.{every, isZero}
 use Rattle.ground.proofs.Laws.{and-right}
 use Rattle.ground.specs.Calls.{Reply, isRefused, decide}
-use Rattle.kits.specs.Kits.{listFaults, goodList, units, before, mostUnits}
-use Rattle.kits.specs.Inner.{unitsIn, compared}
+use Rattle.kits.specs.Kits.{listFaults, goodList, units, before, mostUnits, unitsIn}
+use Rattle.kits.specs.Inner.{compared}
 use Rattle.kits.specs.declared.Row.{Row}
 use Rattle.kits.specs.declared.Compared.{Compared}
 use Rattle.kits.specs.declared.Compared.the-variants.{Before}

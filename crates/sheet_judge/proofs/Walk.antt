@@ -11,8 +11,8 @@ use lib.Seq.{drop-drop, getD-set-same, getD-set-other}
 use borrow.Author.Tests.{eq-eqb, ne-eqb, eqb-true, eqb-false}
 use Rattle.ground.specs.Limits.{twoLimit}
 use Rattle.ground.specs.Lists.{anyb, isZero}
-use Rattle.kits.specs.Kits.{units, mostUnits}
-use Rattle.kits.specs.Inner.{agreed, unitsIn, fixedRow}
+use Rattle.kits.specs.Kits.{units, mostUnits, unitsIn, fixedRow}
+use Rattle.kits.specs.Inner.{agreed}
 use Rattle.kits.specs.declared.Row.{Row}
 use Rattle.kits.proofs.Rows.{row-back}
 use Rattle.nodes.specs.Held.{Kit, allBeginnings}

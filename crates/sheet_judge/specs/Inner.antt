@@ -10,8 +10,8 @@ use Rattle.ground.specs.Limits.{mostParts, twoLimit}
 use Rattle.ground.specs.Lists.{anyb, isZero}
 use Rattle.repeats.specs.Inner.{numberHere, nextPlace}
 use Rattle.register.specs.Number.{goodNumber}
-use Rattle.kits.specs.Kits.{goodList, units, mostUnits}
-use Rattle.kits.specs.Inner.{agreed, unitsIn}
+use Rattle.kits.specs.Kits.{goodList, units, mostUnits, unitsIn}
+use Rattle.kits.specs.Inner.{agreed}
 use Rattle.kits.specs.declared.Row.{Row}
 use Rattle.nodes.specs.Held.{Kit}
 use Rattle.sheet.specs.Bytes.{fromBytes, twoBytes}

@@ -11,8 +11,7 @@ use borrow.Author.Tests.{lt-ltb, le-ltb, ltb-true, ltb-false, eqb-true, eqb-fals
 use Rattle.ground.specs.Lists.{isZero, keep}
 use Rattle.ground.specs.Laid.{zeroed}
 use Rattle.ground.proofs.Laws.{and-left, and-right}
-use Rattle.kits.specs.Kits.{mostUnits, units}
-use Rattle.kits.specs.Inner.{fixedRow}
+use Rattle.kits.specs.Kits.{mostUnits, units, fixedRow}
 use Rattle.kits.specs.declared.Row.{Row}
 use Rattle.kits.proofs.Rows.{row-back}
 use Rattle.nodes.specs.Held.{Kit, allBeginnings, someUnit, withUnits}
@@ -22,9 +21,8 @@ use Rattle.index_insert.specs.Enter.{enterAll}
 use Rattle.sheet.specs.Reading.{recordSize, kitIn}
 use Rattle.sheet.specs.Inner.{recordAt, recordEnd, listAt, WholeAt}
 use Rattle.sheet.proofs.Places.{size-at, end-whole, row-is}
-use Rattle.sheet.proofs.Emptied.{first-without}
+use Rattle.sheet.proofs.Emptied.{first-without, good-with-units, unlike-with-units, rising-with-units}
 use Rattle.sheet_read.specs.Inner.{kitsRead, emptyFirst, KitsStand}
-use Rattle.sheet_read.proofs.Listed.{good-with-units, unlike-with-units, rising-with-units}
 use Rattle.sheet_read.proofs.Kits.{Filling, kits-step, kits-none, end-step, filling-start, record-whole, units-short}
 
 kits-many : (w : ℕ) (s : List ℕ) (at m : ℕ) → length (kitsRead w s at m) ≡ m

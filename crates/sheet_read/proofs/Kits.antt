@@ -6,8 +6,8 @@ use native.Mathlib.Nat.{sub-zero}
 use native.Mathlib.Omega.{arith}
 use lib.ListN.{length, take, drop}
 use Rattle.ground.specs.Laid.{zeroed}
-use Rattle.kits.specs.Kits.{mostUnits, mostPlace, units}
-use Rattle.kits.specs.Inner.{GoodRow, unitsIn, fixedRow}
+use Rattle.kits.specs.Kits.{mostUnits, mostPlace, units, unitsIn, fixedRow}
+use Rattle.kits.specs.Inner.{GoodRow}
 use Rattle.kits.specs.declared.Row.{Row}
 use Rattle.kits.proofs.Rows.{row-back}
 use Rattle.nodes.specs.Inner.{Shape}
@@ -24,9 +24,10 @@ use Rattle.index_counts.proofs.Filled.{Fit, Fillable, acceptable, fill-next}
 use Rattle.sheet.specs.Bytes.{fromBytes, twoBytes}
 use Rattle.sheet.specs.Reading.{recordSize, kitIn}
 use Rattle.sheet.specs.Inner.{Width, recordAt, recordEnd, listAt, WholeAt}
+use Rattle.sheet.proofs.Fits.{rising-earlier}
 use Rattle.sheet.proofs.Places.{size-at, end-whole, tag-is, row-is}
 use Rattle.sheet_read.specs.Inner.{kitsRead, endRead, KitsStand}
-use Rattle.sheet_read.proofs.Listed.{kits-fillable, rising-earlier}
+use Rattle.sheet_read.proofs.Listed.{kits-fillable}
 
 module _ (w : ℕ) (s : List ℕ) where
   pub kits-step : (at k m : ℕ) → k < m →

@@ -1,31 +1,28 @@
--- Kits that the format has room for: its tests, and the words in which the node table's laws speak of kits, say the same.
+-- Kits that the format has room for can be entered, and are inserted, one after the other.
 use mathlib.Core.Path.{_≡_, refl, sym, ap, _∙_}
 use mathlib.Core.Logic.{_≢_}
-use mathlib.Core.Bool.{true, false, not}
-use mathlib.Core.List.{List, [], _∷_, List·Memᴰ·not-nil, Memᴰ·cast}
+use mathlib.Core.Bool.{true}
+use mathlib.Core.List.{List, [], _∷_, List·Memᴰ·not-nil}
 use Prim.Native.Nat.{ℕ, _+_, _≤_, _<_}
 use native.Mathlib.Omega.{arith}
 use lib.ListN.{length, length-replicate}
 use lib.Dec.{eqb}
-use borrow.Author.Tests.{leb-true, le-leb, lt-ltb, ne-eqb, not-true}
+use borrow.Author.Tests.{leb-true, le-leb, lt-ltb}
 use Rattle.ground.specs.Limits.{twoLimit}
-use Rattle.ground.specs.Lists.{allb, anyb, every, distinct}
+use Rattle.ground.specs.Lists.{allb, every, distinct}
 use Rattle.ground.specs.Laid.{zeroed}
 use Rattle.ground.specs.Calls.{answer, memory}
 use Rattle.ground.proofs.Calls.{leaves-done}
-use Rattle.ground.proofs.Laws.{and-left, and-right, and-both, every-at}
-use Rattle.kits.specs.Kits.{mostUnits, listOf, before, goodList}
+use Rattle.ground.proofs.Laws.{every-at}
+use Rattle.kits.specs.Kits.{mostUnits, listOf, goodList}
 use Rattle.kits.specs.Inner.{GoodRow}
-use Rattle.kits.proofs.Order.{before-transitive}
 use Rattle.kits.proofs.Units.{good-row, units-back, row-list-good}
 use Rattle.nodes.specs.Nodes.{size, nodesLength}
 use Rattle.nodes.specs.Held.{Kit, tagsOf, held, someUnit, withUnits, allBeginnings}
-use Rattle.nodes.proofs.Lists.{never}
 use Rattle.nodes.proofs.Fields.{length-sized}
-use Rattle.nodes.proofs.Sorted.{Every, Rising, none, also, ahead, every-mem, mem-every, every-map, every-map2, allb-mem, mem-allb, eqb-anyb}
-use Rattle.nodes.proofs.Sorted.{rising-keep, keep-mem}
-use Rattle.nodes.proofs.Listing.{Earlier, OtherTag, earlier-other, tags-mem, mem-tags}
-use Rattle.nodes.proofs.Units.{some-unit-is, units-mem}
+use Rattle.nodes.proofs.Sorted.{Every, Rising, none, also, ahead, mem-every, every-map2, keep-mem, allb-mem}
+use Rattle.nodes.proofs.Listing.{Earlier, OtherTag, earlier-other}
+use Rattle.nodes.proofs.Units.{some-unit-is}
 use Rattle.nodes.proofs.Empty.{zeros-sound, zeros-hold-nothing}
 use Rattle.index_insert.specs.Enter.{enter, lacks, enterAll}
 use Rattle.index.specs.Inner.{insertingRow}
@@ -33,55 +30,7 @@ use Rattle.index.proofs.Answers.{inserting-done}
 use Rattle.index.proofs.Kept.{Accepted}
 use Rattle.index_counts.proofs.Filled.{Fit, Apart, Fillable, acceptable, fill-next}
 use Rattle.sheet.specs.Inner.{goodKit, rising}
-use Rattle.sheet.proofs.Fresh.{any-none}
-
--- each kit before the next, and each before all that follow
-first-of : {R : Kit → Kit → Type 0} {k : Kit} {ks : List Kit} → Rising R (k ∷ ks) → Every (R k) ks
-first-of (ahead e s) = e
-
-pub rising-earlier : (ks : List Kit) → rising ks ≡ true → Rising Earlier ks
-unfolding rising
-rising-earlier [] h = none
-rising-earlier (k ∷ []) h = ahead none none
-rising-earlier (k ∷ l ∷ ks) h =
-    let b : before (k .row) (l .row) ≡ true = and-left (before (k .row) (l .row)) (rising (l ∷ ks)) h in
-    let s : Rising Earlier (l ∷ ks) = rising-earlier (l ∷ ks) (and-right (before (k .row) (l .row)) (rising (l ∷ ks)) h) in
-    ahead (also b (every-map (λ x e. before-transitive (k .row) (l .row) (x .row) b e) (first-of s))) s
-
-pub earlier-rising : {ks : List Kit} → Rising Earlier ks → rising ks ≡ true
-unfolding rising
-earlier-rising none = refl
-earlier-rising (ahead none s) = refl
-earlier-rising (ahead {x = k} (also {x = l} {xs = ks} b e) s) = and-both (before (k .row) (l .row)) (rising (l ∷ ks)) b (earlier-rising s)
-
--- no tag twice
-pub tags-apart : (ks : List Kit) → distinct eqb (tagsOf ks) ≡ true → Rising OtherTag ks
-unfolding distinct tagsOf
-tags-apart [] h = none
-tags-apart (k ∷ ks) h =
-    let a : anyb (eqb (k .tag)) (tagsOf ks) ≡ false = not-true _
-    (and-left (not (anyb (eqb (k .tag)) (tagsOf ks))) (distinct eqb (tagsOf ks)) h) in
-    ahead (mem-every ks (λ y m q. never (sym (eqb-anyb (k .tag) (tagsOf ks) (Memᴰ·cast q (mem-tags y ks m))) ∙ a)))
-    (tags-apart ks (and-right (not (anyb (eqb (k .tag)) (tagsOf ks))) (distinct eqb (tagsOf ks)) h))
-
-pub apart-tags : {ks : List Kit} → Rising OtherTag ks → distinct eqb (tagsOf ks) ≡ true
-unfolding distinct tagsOf
-apart-tags none = refl
-apart-tags (ahead {x = k} {xs = ks} e s) =
-    and-both (not (anyb (eqb (k .tag)) (tagsOf ks))) (distinct eqb (tagsOf ks))
-    (ap not (any-none (eqb (k .tag)) (tagsOf ks)
-    (λ t m. let o = tags-mem t ks m in ne-eqb (k .tag) t (λ q. every-mem e (o .1) (q ∙ sym (o .2))))))
-    (apart-tags s)
-
--- What the format asks of kits it asks of those with a unit among them
-pub good-with-units : (n : ℕ) (ks : List Kit) → allb (goodKit n) ks ≡ true → allb (goodKit n) (withUnits ks) ≡ true
-good-with-units n ks g = mem-allb (goodKit n) (withUnits ks) (λ k m. allb-mem (goodKit n) ks k g (units-mem k ks .0 m .0))
-
-pub unlike-with-units : (ks : List Kit) → distinct eqb (tagsOf ks) ≡ true → distinct eqb (tagsOf (withUnits ks)) ≡ true
-unlike-with-units ks d = apart-tags (rising-keep someUnit ks (tags-apart ks d))
-
-pub rising-with-units : (ks : List Kit) → rising ks ≡ true → rising (withUnits ks) ≡ true
-rising-with-units ks r = earlier-rising (rising-keep someUnit ks (rising-earlier ks r))
+use Rattle.sheet.proofs.Fits.{rising-earlier, tags-apart}
 
 -- a good kit may be entered
 pub kit-fits : (n p : ℕ) (k : Kit) → n ≤ p → goodKit n k ≡ true → Fit p k

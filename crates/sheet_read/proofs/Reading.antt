@@ -27,14 +27,14 @@ use Rattle.sheet.specs.Sheet.{Contents, contentsOf, withoutEmpty, encode, slots
 use Rattle.sheet.specs.Inner.{fitsSheet}
 use Rattle.sheet.specs.Reading.{Item, item, fault, decode, isFault, offset, said}
 use Rattle.sheet.specs.Calls.{sheetRefusals, roomRefusals}
-use Rattle.sheet.proofs.Fits.{Fits, fitting-fits}
+use Rattle.sheet.proofs.Fits.{Fits, fitting-fits, rising-earlier}
 use Rattle.sheet.proofs.Emptied.{needed-without, fits-without}
 use Rattle.sheet.proofs.Laws.{encode-decode}
 use Rattle.ground.specs.Tables.{Tables, tables}
 use Rattle.sheet_read.specs.Filling.{filling, Roomy}
 use Rattle.sheet_read.specs.Inner.{readingInto}
 use Rattle.sheet_read.proofs.Registered.{register-parts, register-sound, register-long, registerAll, registered-in-order}
-use Rattle.sheet_read.proofs.Listed.{rising-earlier, kits-fillable, HasUnit, have-units, insertAll, inserted-in-order}
+use Rattle.sheet_read.proofs.Listed.{kits-fillable, HasUnit, have-units, insertAll, inserted-in-order}
 
 -- tables M that have just some contents, with no empty kit, are sound, and are as long as T
 pub record Has (c : Contents) (T M : Tables) : Type 0 where

@@ -30,13 +30,13 @@ use Rattle.sheet.specs.Sheet.{Contents, contentsOf, withoutEmpty, encode}
 use Rattle.sheet.specs.Inner.{goodKit, fitsSheet}
 use Rattle.sheet.specs.Reading.{decode, isFault, said}
 use Rattle.sheet.specs.Calls.{writingOf, sheetRefusals, roomRefusals}
-use Rattle.sheet.proofs.Fits.{fits-fitting}
+use Rattle.sheet.proofs.Fits.{fits-fitting, earlier-rising, apart-tags}
 use Rattle.sheet.proofs.Emptied.{contents-without}
 use Rattle.sheet.proofs.Laws.{decode-encode}
 use Rattle.ground.specs.Tables.{Tables}
 use Rattle.sheet_read.specs.Filling.{filling, Roomy}
 use Rattle.sheet_read.specs.Inner.{readingInto}
-use Rattle.sheet_read.proofs.Listed.{earlier-rising, apart-tags, fits-kit}
+use Rattle.sheet_read.proofs.Listed.{fits-kit}
 use Rattle.sheet_read.proofs.Reading.{Has, filling-has, reading-again}
 
 -- Writing into an output with room

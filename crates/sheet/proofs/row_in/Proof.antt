@@ -3,8 +3,7 @@ use mathlib.Core.Path.{_≡_, _∙_, ap}
 use mathlib.Core.List.{List}
 use Prim.Native.Nat.{ℕ, _-_}
 use lib.ListN.{take, drop}
-use Rattle.kits.specs.Kits.{units}
-use Rattle.kits.specs.Inner.{fixedRow}
+use Rattle.kits.specs.Kits.{units, fixedRow}
 use Rattle.sheet.specs.Inner.{listAt}
 use Rattle.sheet.proofs.Places.{lent-list}
 use borrow.Author.Needs.{needs}

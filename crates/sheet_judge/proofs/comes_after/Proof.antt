@@ -7,7 +7,7 @@ use mathlib.Core.List.{[], _∷_}
 use mathlib.Core.Logic.{⊎-elim}
 use Prim.Native.Nat.{ℕ}
 use native.Mathlib.Omega.{arith}
-use Rattle.kits.specs.Inner.{unitsIn}
+use Rattle.kits.specs.Kits.{unitsIn}
 use Rattle.kits.specs.declared.Compared.{Compared}
 use Rattle.kits.specs.declared.Compared.the-variants as v
 use Rattle.sheet_judge.proofs.Records.{first-free, later-told, not-before, is-before}

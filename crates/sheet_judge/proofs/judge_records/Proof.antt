@@ -8,8 +8,7 @@ use lib.ListN.{length, take, drop}
 use borrow.Author.Tests.{not-true, not-false}
 use Rattle.ground.specs.Lists.{isZero}
 use Rattle.ground.proofs.Laws.{getD-zeros, and-right}
-use Rattle.kits.specs.Kits.{units, mostUnits, before}
-use Rattle.kits.specs.Inner.{unitsIn, fixedRow}
+use Rattle.kits.specs.Kits.{units, mostUnits, before, unitsIn, fixedRow}
 use Rattle.kits.specs.declared.Row.{Row}
 use Rattle.kits.proofs.Rows.{agreed-right, row-back}
 use Rattle.sheet.specs.Bytes.{fromBytes}

@@ -1,0 +1,3 @@
+-- Request 4: the pages of a listing.
+pub mod Pages
+pub mod Inner

@@ -1,0 +1,2 @@
+-- The walk that both thin functions take.
+pub mod Thin
