@@ -52,4 +52,9 @@ uint8_t padrisk_write_sheet(const uint8_t *reg, size_t reg_bytes, const uint16_t
                             size_t out_bytes, uint32_t *value);
 uint8_t padrisk_read_sheet(uint8_t *reg, size_t reg_bytes, uint16_t *nodes, size_t node_words, const uint8_t *sheet,
                            size_t sheet_bytes, uint32_t *value);
+
+// Reads what is left of a torn sheet: the kits kept. The kits announced stand in *announced, and in *third the offset of the first
+// fault or else the sheet's length. Refused, *value and *announced are 0, and the refusal's value stands in *third.
+uint8_t padrisk_salvage(uint8_t *reg, size_t reg_bytes, uint16_t *nodes, size_t node_words, const uint8_t *sheet,
+                        size_t sheet_bytes, uint32_t *announced, uint32_t *third, uint32_t *value);
 #endif

@@ -12,6 +12,9 @@ static const uint8_t PRINTED[SHEET] = {
     0x4B, 0x49, 0x54, 0x00, 0x01, 0x00, 0x03, 0x05, 0x30, 0x30, 0x37, 0x34, 0x31, 0x03, 0x37, 0x34, 0x31,
     0x04, 0x34, 0x30, 0x31, 0x36, 0x00, 0x02, 0x00, 0x09, 0x01, 0x01, 0x01, 0x00, 0x05, 0x01, 0x02, 0x01};
 
+// No answer has this number.
+static const uint32_t NONSENSE = 0xDEADBEEF;
+
 static uint8_t reg[REG];
 static uint16_t nodes[NODES];
 static uint32_t value;
@@ -30,7 +33,7 @@ static void answered(uint8_t number, uint8_t wanted, uint32_t wanted_value, cons
         printf("face: %s answered %u %lu, not %u %lu\n", line, number, (unsigned long)value, wanted, (unsigned long)wanted_value);
         differences++;
     }
-    value = 0xDEADBEEF;
+    value = NONSENSE;
 }
 
 static void registers(const char *num, uint8_t number, uint32_t wanted) {
@@ -54,13 +57,17 @@ static void empties(void) {
     expect(zeros(), "emptied tables are not all zeros");
 }
 
-static void writes(void) {
+static void writes_as(const uint8_t *sheet, uint32_t bytes) {
     uint8_t out[SHEET + 1];
-    out[SHEET] = 0xA5;
-    answered(padrisk_write_sheet(reg, REG, nodes, NODES, out, sizeof out, &value), 0, SHEET, "W");
-    expect(memcmp(out, PRINTED, SHEET) == 0, "the sheet is another than the printed one");
-    expect(out[SHEET] == 0xA5, "what lies behind the sheet is another");
-    answered(padrisk_write_sheet(reg, REG, nodes, NODES, out, SHEET - 1, &value), 12, SHEET, "W one byte short");
+    memset(out, 0xA5, sizeof out);
+    answered(padrisk_write_sheet(reg, REG, nodes, NODES, out, sizeof out, &value), 0, bytes, "W");
+    expect(memcmp(out, sheet, bytes) == 0, "the sheet is another than the one wanted");
+    expect(out[bytes] == 0xA5, "what lies behind the sheet is another");
+    answered(padrisk_write_sheet(reg, REG, nodes, NODES, out, bytes - 1, &value), 12, bytes, "W one byte short");
+}
+
+static void writes(void) {
+    writes_as(PRINTED, SHEET);
 }
 
 typedef struct {
@@ -168,8 +175,59 @@ static void shows(void) {
     answered(padrisk_show_answer(reg, REG, 4, &value), 11, 0, "show place 4");
 }
 
-int main(void) {
+// Tables that no call can have left.
+static void spoils(void) {
     memset(reg, 0xFF, REG), memset(nodes, 0xFF, NODES * sizeof *nodes);
+}
+
+static uint32_t announced, third;
+
+// What a salvage just called reported behind its answer: each stood at nonsense before.
+static void reported(uint32_t wanted_announced, uint32_t wanted_third, const char *line) {
+    if (announced != wanted_announced || third != wanted_third) {
+        printf("face: %s reported %lu announced and then %lu, not %lu and %lu\n", line, (unsigned long)announced, (unsigned long)third,
+               (unsigned long)wanted_announced, (unsigned long)wanted_third);
+        differences++;
+    }
+    announced = third = NONSENSE;
+}
+
+static void salvages(const uint8_t *sheet, size_t bytes, uint32_t kept, uint32_t wanted_third, const char *line) {
+    answered(padrisk_salvage(reg, REG, nodes, NODES, sheet, bytes, &announced, &third, &value), 0, kept, line);
+    reported(2, wanted_third, line);
+}
+
+// Of the printed sheet: 0 and 0, and the refusal's value third.
+static void salvage_refused(size_t reg_bytes, size_t node_words, size_t bytes, uint8_t number, uint32_t wanted_third, const char *line) {
+    uint8_t reg_then[REG];
+    uint16_t nodes_then[NODES];
+    memcpy(reg_then, reg, sizeof reg), memcpy(nodes_then, nodes, sizeof nodes);
+    answered(padrisk_salvage(reg, reg_bytes, nodes, node_words, PRINTED, bytes, &announced, &third, &value), number, 0, line);
+    reported(0, wanted_third, line);
+    expect(memcmp(reg_then, reg, sizeof reg) == 0 && memcmp(nodes_then, nodes, sizeof nodes) == 0, "a refused salvage wrote");
+}
+
+// Request 12: the printed sheet whole, torn and refused, into tables that need not be sound.
+static void rescues(void) {
+    enum { COUNT_AT = 22, FIRST_AT = 24, SECOND_AT = 29 };
+    uint8_t longer[SHEET + 1] = {0}, first[SECOND_AT], none[FIRST_AT];
+    memcpy(longer, PRINTED, SHEET), memcpy(first, PRINTED, SECOND_AT), memcpy(none, PRINTED, FIRST_AT);
+    first[COUNT_AT + 1] = 1, none[COUNT_AT + 1] = 0;
+    spoils(), salvages(PRINTED, SHEET, 2, SHEET, "salvage of a whole sheet"), writes();
+    spoils(), salvages(longer, SHEET + 1, 2, SHEET, "salvage with a byte behind the end"), writes();
+    spoils(), salvages(PRINTED, FIRST_AT, 0, FIRST_AT, "salvage cut behind the kit count"), writes_as(none, FIRST_AT);
+    spoils(), salvages(PRINTED, SHEET - 1, 1, SECOND_AT, "salvage cut in the last record"), writes_as(first, SECOND_AT);
+    salvage_refused(REG - 1, NODES, SHEET, 1, 0, "salvage into a register of a wrong length");
+    salvage_refused(REG, NODES - 1, FIRST_AT - 1, 1, 0, "salvage into nodes of a wrong length");
+    salvage_refused(REG, NODES, FIRST_AT - 1, 13, COUNT_AT, "salvage cut in the kit count");
+    salvage_refused(REG / 2, NODE_WORDS, FIRST_AT - 1, 13, COUNT_AT, "salvage cut in the kit count, without room");
+    salvage_refused(REG / 2, NODES, FIRST_AT, 12, 3, "salvage with two slots");
+    salvage_refused(REG, 2 * NODE_WORDS, SHEET, 12, 3, "salvage with two nodes");
+    writes_as(first, SECOND_AT);
+}
+
+int main(void) {
+    spoils();
     empties();
     printed_lines(), writes(), shows();
     empties();
@@ -177,6 +235,7 @@ int main(void) {
     writes();
     answered(padrisk_read_sheet(reg, REG, nodes, NODES, PRINTED, SHEET - 1, &value), 13, 29, "read a torn sheet");
     writes();
+    rescues();
     printf("face: %d differences\n", differences);
     return differences != 0;
 }

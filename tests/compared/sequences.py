@@ -4,12 +4,13 @@ The tables that the probe answered go into its next request. Plays the fixed seq
 many by chance: by turns one catalogue that is filled and emptied, and two catalogues whose sheets
 must agree exactly when their contents do. No call ever leaves a tag at the root, but in tables that
 were lent with one. A kit that is entered and struck out next leaves both tables as they were.
-Listings are paged through, and kits come and go between two pages.
+Listings are paged through, and kits come and go between two pages. Torn sheets are rescued, and
+what is written then is the sheet of just the kits kept.
 """
 
 from made import (
-    empty_sequences, index_sequences, page_sequences, sheet_sequences, undone_sequences,
-    version_sequences)
+    empty_sequences, index_sequences, page_sequences, salvage_sequences, sheet_sequences,
+    undone_sequences, version_sequences)
 from made.chance import Chance
 from made.reached import sequences_reached
 from run.door import played
@@ -76,6 +77,10 @@ def compare(command, options):
     comparison.play("changed between pages", page_sequences.changed_between)
     comparison.play("paged through 4,096 nodes", page_sequences.full_tables)
     comparison.play("changed between pages of 4,096 nodes", page_sequences.changed_in_full)
+    comparison.play("torn anywhere", salvage_sequences.torn_anywhere)
+    comparison.play("other kits announced", salvage_sequences.counts_announced)
+    comparison.play("old sheets torn", salvage_sequences.old_sheets)
+    comparison.play("room for the kits kept", salvage_sequences.just_enough)
     comparison.play("both versions", version_sequences.both_versions)
     comparison.play("4,000 parts", version_sequences.four_thousand_parts)
     for turn in range(options.sequences):

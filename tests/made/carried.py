@@ -22,10 +22,11 @@ from .bookmarks import PAGE_LETTERS, begun_at
 from .empty_ways import ROOT_TAG_AT
 from .reached import ANSWER, COUNTED, COUNTED_BEHIND, SEQUENCES
 from .requests import fill_unused
+from .salvage_requests import rescued_sheet
 
 # The tables, which one call leaves to the next, and the calls that replace all that they hold.
 TABLES = "RN"
-REPLACING = "er"
+REPLACING = "erS"
 
 
 class Contents:
@@ -54,8 +55,8 @@ class Contents:
             self.kits[units(lines_of_words(lent["L"]))] = request.a
         elif request.letter == "d":
             del self.kits[units(lines_of_words(lent["L"]))]
-        elif request.letter == "r":
-            numbers, read = sheet.read(lent["I"])
+        elif request.letter in "rS":
+            numbers, read = kits_brought(request, answer)
             self.numbers, self.kits = numbers, with_units(dict(read))
 
     def nodes_needed(self):
@@ -82,6 +83,22 @@ class Contents:
     def sheet(self):
         """The sheet that the document lays down for these contents."""
         return sheet.written(self.numbers, self.kits)
+
+
+def kits_brought(request, answer):
+    """The part numbers and the kits of a sheet that was read, or of what was rescued of one.
+
+    That is "a sheet with just those kits" which a rescue reports, and it must be faultless.
+    """
+    data = request.blocks["I"]
+    if request.letter == "r":
+        return sheet.read(data)
+    just = rescued_sheet(data, answer.value, answer.third)
+    try:
+        return sheet.read(just)
+    except sheet.SheetFault as fault:
+        raise Different(["%d kits kept up to byte %d are no faultless sheet:" % (
+            answer.value, answer.third), "  " + just.hex(" ")]) from fault
 
 
 class Catalogue:
@@ -212,6 +229,14 @@ def expect(came, number, value, what):
     if (came.number, came.value) != (number, value):
         raise Different(["%s: answer %d %d, by the document %d %d" % (
             what, came.number, came.value, number, value)])
+
+
+def expect_report(came, right, what):
+    """The number and the three numbers of a rescue must be what the document says."""
+    told = came.number, came.value, came.second, came.third
+    if told != right:
+        raise Different(["%s: answer %d, %d of %d kept, offset %d; by the document %d, %d of %d, %d"
+                         % (what, *told, *right)])
 
 
 def empty_catalogue(door, slots, node_count):

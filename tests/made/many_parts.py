@@ -72,7 +72,7 @@ def large():
 def register_lengths():
     """Registers around 255 and 4,000 slots, and of lengths between, for every call."""
     for length in LENGTHS + OTHER_LENGTHS:
-        for letter in "pkr" if length in OTHER_LENGTHS else "plnr" + ALL_LETTERS:
+        for letter in "pkrS" if length in OTHER_LENGTHS else "plnrS" + ALL_LETTERS:
             yield Request(letter, 2, R=filled([b"A", b"B"], 2) + bytes(length - 2 * SLOT_BYTES),
                           N=[0] * 2 * NODE_WORDS, L=[2, 1], I=b"C" if letter == "p" else b"B",
                           O=bytes(20), K=not_begun(), note="register of %d bytes" % length)

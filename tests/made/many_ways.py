@@ -161,8 +161,9 @@ def item_at_fault(data, offset):
         return "number" if offset > PART_COUNT_AT else ""
     if offset == items.at:
         return "kit count"
+    count = items.take_number(sheet.TWO_BYTES)
     try:
-        sheet.read_kits(items, version, len(numbers))
+        list(sheet.records_read(items, version, len(numbers), count))
     except sheet.SheetFault:
         return "record"
     return "end"

@@ -18,6 +18,8 @@ from second.refusals import (
 from .bookmarks import PAGE_LETTERS
 from .many_parts import EDGE_PLACES
 from .many_ways import BEHIND, WIDE_CUT, sizes_read
+from .salvage_ways import (
+    BYTE_SET, TORN_OFF, WIDE_TORN_OFF, byte_set, printed_altered, printed_torn, sizes_kept)
 from .sheet_requests import PRINTED_SHEET
 from .undone_ways import names_at_once
 from .version_requests import SMALLEST
@@ -93,6 +95,8 @@ NUMBERS = {
     "#": TABLES | LIST,
     "s": TABLES | {NO_ROOM},
     "r": {DONE, WRONG_LENGTH, NO_ROOM, SHEET_AT_FAULT},
+    # Never 2, as in reading, and never 16: a sheet may bring in what registration refuses.
+    "S": {DONE, WRONG_LENGTH, NO_ROOM, SHEET_AT_FAULT},
 }
 
 
@@ -101,10 +105,33 @@ def answers(numbers, who="%s"):
     return {(who % letter, ANSWER % number) for letter, row in numbers.items() for number in row}
 
 
-# The printed sheet and the smallest one of version 2 must be cut at every byte.
-CUT_AT = "r of %d bytes"
-CUTS = {CUT_SHORT: (sheet_read, range(len(PRINTED_SHEET))),
-        WIDE_CUT: (sizes_read, range(len(SMALLEST)))}
+# The printed sheet and the smallest one of version 2 must be cut at every byte, and every byte of
+# the printed one must be set to every value: by letter and way, who tells the way, all the spots
+# where it must come, and the spot of a request.
+CUT_AT = "%s of %d bytes"
+SET_AT = "%s with byte %d set to %d"
+
+
+def cuts_of(letter, whole):
+    """A sheet cut at every byte."""
+    return ({CUT_AT % (letter, size) for size in range(len(whole))},
+            lambda data: CUT_AT % (letter, len(data)))
+
+
+def sets_of(letter):
+    """The printed sheet with every byte set to every other value."""
+    return ({SET_AT % (letter, at, value) for at, byte in enumerate(PRINTED_SHEET)
+             for value in range(256) if value != byte},
+            lambda data: SET_AT % (letter, *byte_set(data)))
+
+
+SPOTS = {
+    ("r", CUT_SHORT): (sheet_read, *cuts_of("r", PRINTED_SHEET)),
+    ("r", WIDE_CUT): (sizes_read, *cuts_of("r", SMALLEST)),
+    ("S", TORN_OFF): (printed_torn, *cuts_of("S", PRINTED_SHEET)),
+    ("S", WIDE_TORN_OFF): (sizes_kept, *cuts_of("S", SMALLEST)),
+    ("S", BYTE_SET): (printed_altered, *sets_of("S")),
+}
 ANY_CALL = BY_CHANCE % "any call"
 
 
@@ -116,8 +143,8 @@ class CallsReached(Reached):
         self.numbers = {letter: NUMBERS[letter] for letter in letters}
         super().__init__(
             answers(self.numbers) | self.all_ways()
-            | {(CUT_AT % size, what) for what, (way, sizes) in CUTS.items() for size in sizes
-               if way in self.ways.get("r", [])})
+            | {(spot, what) for (letter, what), (way, spots, _) in SPOTS.items() for spot in spots
+               if way in self.ways.get(letter, [])})
 
     def all_ways(self):
         """Each call with each of its ways."""
@@ -131,9 +158,9 @@ class CallsReached(Reached):
     def note_call(self, request, answer):
         """Counts one request and its right answer; tells whether it came to anything new."""
         gone = self.ways_of(request, answer)
-        for what in CUTS:
-            if what in gone:
-                self.note(CUT_AT % len(request.blocks["I"]), what)
+        for (letter, what), (_, _, spot_of) in SPOTS.items():
+            if letter == request.letter and what in gone:
+                self.note(spot_of(request.blocks["I"]), what)
         return self.note(request.letter, ANSWER % answer.number, *gone)
 
 
@@ -198,7 +225,7 @@ BROUGHT_IN = "numbers that sheets alone bring in were registered and looked up"
 # Counts by how many of the kits held they tell, and the calls that they are asked behind.
 COUNTED = {"none": "counts of no kit", "one": "counts of one kit",
            "several": "counts of several kits and not all", "all": "counts of all kits by a list"}
-COUNTED_BEHIND = {**{letter: "kits counted behind an accepted " + letter for letter in "epkdr"},
+COUNTED_BEHIND = {**{letter: "kits counted behind an accepted " + letter for letter in "epkdrS"},
                   None: "kits counted behind a refusal"}
 PAGED_ON = "pages were turned between other calls"
 PAGED_TO_END = {letter: "listings were paged to their end by %s, and once more" % letter
@@ -222,6 +249,17 @@ EMPTY_STRUCK = "empty kits of old tables were struck out"
 OLD_TABLES_WRITTEN = "old tables with an empty kit were written without it and read again"
 OLD_SHEETS_READ = "old sheets with an empty kit were read"
 OLD_SHEETS_WRITTEN = "old sheets with an empty kit were read and written without it"
+RESCUED_WHOLE = "faultless sheets were rescued as they are read"
+RESCUED_WRITTEN = "sheets were rescued in part and written with just the kits kept"
+RESCUED_NOTHING = "sheets were rescued without a kit"
+RESCUED_OLD = "old sheets with an empty kit were rescued"
+RESCUED_AGAIN = "kits that were lost were entered again, and the sheet was whole"
+RESCUED_LAST_NODE = "the kits kept took the last free node"
+RESCUED_TIGHT = "rescues lacked a slot or a node for the kits kept"
+RESCUED_LEFT = "rescues were refused for a kit count cut short"
+RESCUED_VERSIONS = {1: "sheets of version 1 were rescued in part",
+                    2: "sheets of version 2 were rescued in part"}
+RESCUED_ON_THE_WAY = "sheets were rescued in part between other calls"
 ENDED_ALIKE = "pairs ended alike"
 ENDED_APART = "pairs ended apart"
 SEQUENCES = "sequences"
@@ -235,7 +273,9 @@ def sequences_reached():
              OLD_TABLES_WRITTEN, OLD_SHEETS_READ, OLD_SHEETS_WRITTEN, *VERSIONS_WRITTEN.values(),
              *COUNTED.values(), *COUNTED_BEHIND.values(), *names_at_once(), PAGED_ON,
              *PAGED_TO_END.values(), *PAGED_AMID.values(), *PAGED_FULL.values(),
-             *PAGED_FAR.values(), *CHANGED.values(), *CHANGED_FULL.values()}
+             *PAGED_FAR.values(), *CHANGED.values(), *CHANGED_FULL.values(), RESCUED_WHOLE,
+             RESCUED_WRITTEN, RESCUED_NOTHING, RESCUED_OLD, RESCUED_AGAIN, RESCUED_LAST_NODE,
+             RESCUED_TIGHT, RESCUED_LEFT, *RESCUED_VERSIONS.values(), RESCUED_ON_THE_WAY}
     return Reached(answers(numbers) | {(SEQUENCES, turn) for turn in turns})
 
 

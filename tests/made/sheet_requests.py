@@ -286,6 +286,12 @@ def old_contents():
 
 def sweeps():
     """Every byte of a sheet set to several values, left out, or doubled; of small ones, to all."""
+    yield from altered_sheet()
+    yield from every_value(6)
+
+
+def altered_sheet():
+    """Every byte of a sheet set to several values, left out, doubled, and the last one."""
     data = sheet_of([b"00741", b"741", b"4016", b"A" * 24], [
         record(3), record(9, (1, 1)), record(8, (1, 2), (3, 1)), record(256, (1, 2), (4, 2)),
         record(7, (2, 3)), record(65535, (3, 1))])
@@ -296,10 +302,14 @@ def sweeps():
         yield reading(data[:at] + data[at + 1:], note="byte %d left out" % at)
         yield reading(data[:at] + data[at:at + 1] + data[at:], note="byte %d doubled" % at)
         yield reading(data[:at], note="cut to %d bytes" % at)
+
+
+def every_value(node_count):
+    """Every byte of small sheets set to every value, and read into so many nodes."""
     for small in SMALL_SHEETS:
         for at in range(len(small)):
             for value in range(256):
-                yield reading(small[:at] + bytes([value]) + small[at + 1:], 3, 6,
+                yield reading(small[:at] + bytes([value]) + small[at + 1:], 3, node_count,
                               note="byte %d of %d set to each value" % (at, len(small)))
 
 
@@ -407,16 +417,22 @@ class Maker:
         data = old_sheet(part_numbers, kits)
         for _ in range(chance.pick((0, 0, 1, 1, 2))):
             data = self.altered(data, part_numbers, kits)
-        slots = max(1, len(part_numbers) + chance.pick((-1, 0, 0, 0, 1, 2)))
-        needed = sheet.nodes_needed(kits.items())
+        register, words = self.tables_around(
+            len(part_numbers), sheet.nodes_needed(kits.items()))
+        return Request("r", R=register, N=words, I=data)
+
+    def tables_around(self, parts, needed):
+        """Tables of anything with about so many slots and nodes, now and then of wrong length."""
+        chance = self.chance
+        slots = max(1, parts + chance.pick((-1, 0, 0, 0, 1, 2)))
         node_count = max(1, needed + chance.pick((-2, -1, 0, 0, 0, 1, 5)))
         old_register = chance.pick((bytes(slots * SLOT_BYTES), b"\x31" * slots * SLOT_BYTES))
         old_words = [chance.pick((0, 1, 65535))] * (node_count * NODE_WORDS)
         if chance.one_in(12):
             old_register = old_register[:chance.below(len(old_register))]
         if chance.one_in(12):
-            old_words = damaged_table(chance, old_words, len(part_numbers))
-        return Request("r", R=old_register, N=old_words, I=data)
+            old_words = damaged_table(chance, old_words, parts)
+        return old_register, old_words
 
     def contents(self):
         """The part numbers and the kits of a sheet; now and then enough of them for version 2."""

@@ -16,8 +16,11 @@ from .bookmarks import not_begun, some_bookmark
 from .carried import Catalogue, Contents, empty_catalogue, expect
 from .index_requests import QUESTION_LETTERS, some_list, some_room, some_tag
 from .page_sequences import page_through, turn_stray
-from .reached import ALMOST_FILLED, BROUGHT_IN, ENDED_ALIKE, ENDED_APART, OLD_SHEETS_READ
+from .reached import (
+    ALMOST_FILLED, BROUGHT_IN, ENDED_ALIKE, ENDED_APART, OLD_SHEETS_READ, RESCUED_ON_THE_WAY)
 from .register_requests import ALIKE
+from .salvage_requests import announcing
+from .salvage_ways import front_of
 from .sheet_requests import old_sheet
 from .tables import some_new_tag, some_row
 
@@ -272,6 +275,23 @@ class Walk:
         came = self.catalogue.call(letter, I=data)
         self.catalogue.came_to(OLD_SHEETS_READ, came.done() and data == old)
 
+    def rescue(self, letter):
+        """A sheet that is torn, or announces other kits, or has a byte of its records changed.
+
+        Its parts begin as the aim's, or it is refused: at fault before the records, or too large.
+        """
+        contents = self.chance.pick((self.contents(), self.sheet_on_the_way()))
+        whole = self.chance.pick((contents.sheet(), with_empty_kit(self.chance, contents)))
+        start, kits = front_of(whole).start, len(contents.kits)
+        cut = whole[:self.chance.between(start, len(whole))]
+        sheets = [whole, cut, cut, cut, whole + b"\0", whole[:self.chance.below(start)],
+                  announcing(whole, self.chance.below(kits + 3)), announcing(cut, kits)]
+        if start < len(whole):
+            at = self.chance.between(start, len(whole) - 1)
+            sheets.append(whole[:at] + self.chance.some_bytes(1) + whole[at + 1:])
+        came = self.catalogue.call(letter, I=self.chance.pick(sheets))
+        self.catalogue.came_to(RESCUED_ON_THE_WAY, came.done() and 0 < came.value < came.second)
+
     def sheet_on_the_way(self):
         """Contents whose parts begin as the aim's, with kits of the aim and others."""
         parts = self.chance.below(len(self.aim.numbers) + 1)
@@ -324,12 +344,12 @@ class Walk:
 
 
 # The letters of a stray call, and how each is made.
-STRAY_LETTERS = "pppplnkkkkkkkkffdddwcWCaaggGG#srr" * 2 + "e"
+STRAY_LETTERS = "pppplnkkkkkkkkffdddwcWCaaggGG#srrSS" * 2 + "e"
 WAYS = {
     "e": Walk.empty, "p": Walk.register, "l": Walk.look_up, "n": Walk.show, "k": Walk.insert,
     "f": Walk.take_list, "d": Walk.take_list, "w": Walk.question, "c": Walk.question,
     "W": Walk.question, "C": Walk.question, "a": Walk.almost_filled, "g": Walk.turn_page,
-    "G": Walk.turn_page, "#": Walk.take_list, "s": Walk.write, "r": Walk.read,
+    "G": Walk.turn_page, "#": Walk.take_list, "s": Walk.write, "r": Walk.read, "S": Walk.rescue,
 }
 
 
@@ -396,9 +416,12 @@ def wander(walk, calls):
 
 
 def begin_again(walk):
-    """All is replaced by what a sheet has, or emptied where that is refused or by chance."""
-    data = walk.sheet_on_the_way().sheet()
-    if walk.chance.one_in(2) or not walk.catalogue.call("r", I=data).done():
+    """All is replaced by what a sheet has, whole or torn, or emptied where that is refused or by
+    chance."""
+    data, letter = walk.sheet_on_the_way().sheet(), walk.chance.pick("rS")
+    if letter == "S":
+        data = data[:walk.chance.between(front_of(data).start, len(data))]
+    if walk.chance.one_in(2) or not walk.catalogue.call(letter, I=data).done():
         walk.catalogue.call("e")
 
 

@@ -24,6 +24,8 @@ from .many_ways import (
     versions_written)
 from .page_ways import PAGE_WAYS, RARE_PAGES, passed_by_pages
 from .register_requests import BESIDE_LETTERS
+from .salvage_ways import (
+    RARE_RESCUES, SALVAGE_WAYS, printed_altered, printed_torn, sizes_kept, versions_kept)
 from .sheet_requests import PRINTED_SHEET
 
 # The printed sheet must be cut at every byte.
@@ -387,6 +389,7 @@ LIMITS = {
     "G": [*AND_LIST, *PAGE_WAYS, PAGE_OVER_BY_EMPTY], "#": [*AND_LIST, kits_counted, OVER_BY_EMPTY],
     "s": [*BOTH_TABLES, output_into("O"), versions_written, left_out],
     "r": [sheet_read, numbers_read, versions_read, replaced, dropped],
+    "S": [*SALVAGE_WAYS, printed_torn, versions_kept],
 }
 # Those that take large requests too, for each of the calls that have the way beside them.
 LARGE = {
@@ -395,6 +398,7 @@ LARGE = {
     looked_up: [slots_lent, parts_lent, places_told, hashes_lent],
     place_given: [slots_lent, parts_lent, places_shown],
     versions_written: [sizes_written], versions_read: [slots_lent, sizes_read, hashes_read],
+    printed_torn: [printed_altered], versions_kept: [slots_lent, sizes_kept],
 }
 ALL_WAYS = {letter: ways + [large for way in ways for large in LARGE.get(way, [])]
             for letter, ways in LIMITS.items()}
@@ -405,17 +409,18 @@ STORED_WAYS = {
     "a": [almost_filled, OVER, NO_PLACE], "g": [*PAGE_WAYS, PAGE_OVER],
     "G": [*PAGE_WAYS, PAGE_OVER_BY_EMPTY], "#": [wrong_counts, kits_counted, OVER_BY_EMPTY],
     "s": [versions_written, left_out], "r": [versions_read, replaced, dropped],
+    "S": SALVAGE_WAYS,
 }
 # Ways that requests by chance hardly ever go: registers are small there.
 OF_MANY_PARTS = [last_of_all, slots_lent, parts_lent, places_told, places_shown, places_listed,
                  hashes_lent, versions_written, sizes_written, versions_read, sizes_read,
-                 hashes_read]
+                 hashes_read, sizes_kept]
 # Ways that requests by chance hardly ever go.
 LEFT_TO_LIMITS = {
     "a kit of 64 units", "a kit of 65 units", "a shortfall of 64", "bytes behind the end",
     "d 64 done", "d 65,535 refused", "line 40 at fault", "line 127 at fault",
     "line 256 of 4,000 at fault", "two lines at fault, and the first is said",
     "an odd list of 8,191 numbers", "an odd list with a line at fault before",
-    "64 units counted", "64 units that no kit has", "65 units", *RARE_PAGES,
+    "64 units counted", "64 units that no kit has", "65 units", *RARE_PAGES, *RARE_RESCUES,
     *names_of(OF_MANY_PARTS) - BY_CHANCE_TOO, TWICE,
 }

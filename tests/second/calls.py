@@ -244,31 +244,56 @@ def write_sheet(request):
     return len(written), {"O": at_start(lent["O"], written)}
 
 
-def read_sheet(request):
-    """Read a sheet: kits read. The order is 1 for each table, then 13, then 12.
-
-    "Reading leaves the tables as if emptied, then filled in sheet order." An empty kit is dropped,
-    takes no node beyond the root and is not counted "among the kits read".
-    """
-    lent = request.blocks
-    check_lengths(lent)
+def fault_or(reader, data):
+    """What a reader of sheets gives of these bytes; 13 with the offset where it finds a fault."""
     try:
-        numbers, read = sheet.read(lent["I"])
+        return reader(data)
     except sheet.SheetFault as fault:
         raise Refusal(SHEET_AT_FAULT, fault.offset) from fault
+
+
+def tables_filled(lent, numbers, read):
+    """Both tables "as if emptied, then filled in sheet order", or 12.
+
+    "reading needs more slots (value: slots), or else more nodes counting the root (value: nodes)"
+    """
     slot_count = len(lent["R"]) // register.SLOT_BYTES
     node_count = len(lent["N"]) // nodes.NODE_WORDS
-    # "reading needs more slots (value: slots), or else more nodes counting the root (value: nodes)"
     if len(numbers) > slot_count:
         raise Refusal(NO_ROOM, len(numbers))
     needed = sheet.nodes_needed(read)
     if needed > node_count:
         raise Refusal(NO_ROOM, needed)
-    return len(read), {"R": register.filled(numbers, slot_count),
-                       "N": index.filled(node_count, read)}
+    return {"R": register.filled(numbers, slot_count), "N": index.filled(node_count, read)}
 
 
-# The calls by letter. Each gives its value and the blocks that it changes, or raises a Refusal.
+def read_sheet(request):
+    """Read a sheet: kits read. The order is 1 for each table, then 13, then 12.
+
+    An empty kit is dropped, takes no node beyond the root and is not counted "among the kits read".
+    """
+    lent = request.blocks
+    check_lengths(lent)
+    numbers, read = fault_or(sheet.read, lent["I"])
+    return len(read), tables_filled(lent, numbers, read)
+
+
+def salvage_sheet(request):
+    """Rescue a torn sheet: kits kept, kits announced, "the offset of the first fault or else the
+    sheet's length".
+
+    "1 as in reading, then 13 up to the kit count, then 12 for the kept part": slots for all parts,
+    or else nodes for the kits kept.
+    """
+    lent = request.blocks
+    check_lengths(lent)
+    rescued = fault_or(sheet.salvaged, lent["I"])
+    filled = tables_filled(lent, rescued.numbers, rescued.kits)
+    return (len(rescued.kits), rescued.announced, rescued.offset), filled
+
+
+# The calls by letter. Each gives its value, or three numbers, and the blocks that it changes; or it
+# raises a Refusal.
 CALLS = {
     "e": empty_tables,
     "p": register_number,
@@ -287,22 +312,31 @@ CALLS = {
     "#": count_kits,
     "s": write_sheet,
     "r": read_sheet,
+    "S": salvage_sheet,
 }
 LETTERS = "".join(CALLS)
 
 # The calls that give a stretch: the probe sends it back as O, "an empty stretch where refused".
 SHOWING = "n"
 
+# The calls that report three numbers.
+REPORTING = "S"
+
 
 def answer(request):
     """The answer to a request whose letter is in the table."""
     blocks = {name: request.blocks[name] for name in ANSWER_BLOCKS}
+    reporting = request.letter in REPORTING
     try:
-        value, changed = CALLS[request.letter](request)
+        told, changed = CALLS[request.letter](request)
     except Refusal as refusal:
         # "Every refusal leaves all lent memory untouched."
         if request.letter in SHOWING:
             blocks["O"] = b""
-        return Answer(refusal.number, refusal.value, blocks)
+        # "a refused call reports 0 for kept and announced, with the refusal's value in the third
+        # place"
+        value, third = (0, refusal.value) if reporting else (refusal.value, 0)
+        return Answer(refusal.number, value, blocks, third=third)
     blocks.update(changed)
-    return Answer(DONE, value, blocks)
+    value, second, third = told if reporting else (told, 0, 0)
+    return Answer(DONE, value, blocks, second, third)

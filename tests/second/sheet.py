@@ -1,6 +1,6 @@
-"""The KIT sheet of document 01 and requests 10 and 14.
+"""The KIT sheet of document 01 and requests 10, 12 and 14.
 
-It is written from numbers and kits, and read item by item.
+It is written from numbers and kits, read item by item, and rescued up to its first fault.
 """
 
 from collections import namedtuple
@@ -21,6 +21,10 @@ BYTE_PLACES = 255
 FIRST_VERSION = Version(1, 0, BYTE_PLACES, ONE_BYTE)
 SECOND_VERSION = Version(2, BYTE_PLACES + 1, MOST_SLOTS, TWO_BYTES)
 VERSIONS = (FIRST_VERSION, SECOND_VERSION)
+
+# What is rescued of a sheet: its part numbers, the kits kept (rows with tags, in sheet order), the
+# kits announced, and "the offset of the first fault or else the sheet's length".
+Rescued = namedtuple("Rescued", "numbers kits announced offset")
 
 
 class SheetFault(Exception):
@@ -101,17 +105,52 @@ def read(data):
     An empty kit on an old sheet is a record like any other, and when all are good it is dropped.
     """
     items = Items(data)
+    version, numbers, count = read_front(items)
+    kits = list(records_read(items, version, len(numbers), count))
+    read_end(items)
+    return numbers, without_empty(kits)
+
+
+def salvaged(data):
+    """What is rescued of a sheet, or the first fault where that is before the kit records.
+
+    "The salvage call needs a faultless mark, version, part list and kit count. It keeps the longest
+    faultless run of kit records from the first on, never more than the kit count". "Reading and
+    salvage accept an old sheet that has" an empty kit, and do not count it among the kits "kept".
+    """
+    items = Items(data)
+    version, numbers, announced = read_front(items)
+    kept, offset = [], len(data)
+    try:
+        for kit in records_read(items, version, len(numbers), announced):
+            kept.append(kit)
+        read_end(items)
+    except SheetFault as fault:
+        offset = fault.offset
+    return Rescued(numbers, without_empty(kept), announced, offset)
+
+
+def without_empty(kits):
+    """The kits with at least one unit: an empty one is dropped."""
+    return [(row, tag) for row, tag in kits if row]
+
+
+def read_front(items):
+    """All that stands before the kit records: the version, the part numbers and the kit count."""
     items.begin()
     if items.take(len(MARK)) != MARK:
         raise items.fault()
     version = read_version(items)
     numbers = read_numbers(items, version)
-    kits = read_kits(items, version, len(numbers))
     items.begin()
-    # "The end is at fault when bytes remain."
-    if items.at != len(data):
+    return version, numbers, items.take_number(TWO_BYTES)
+
+
+def read_end(items):
+    """The end, which "is at fault when bytes remain"."""
+    items.begin()
+    if items.at != len(items.data):
         raise items.fault()
-    return numbers, [(row, tag) for row, tag in kits if row]
 
 
 def read_version(items):
@@ -146,23 +185,23 @@ def read_numbers(items, version):
     return numbers
 
 
-def read_kits(items, version, parts):
-    """The kit count and the kits, rows with tags, an empty one among them."""
-    items.begin()
-    count = items.take_number(TWO_BYTES)
-    kits = []
-    tags = set()
+def records_read(items, version, parts, count):
+    """So many kit records, one after the other up to the first fault: rows with tags.
+
+    That of an empty kit is among them.
+    """
+    before, tags = None, set()
     for _ in range(count):
         items.begin()
         row, tag = read_record(items, version, parts)
         if tag in tags:
             raise items.fault()
         # "for a kit, not after the one before it in listing order"
-        if kits and not row > kits[-1][0]:
+        if before is not None and not row > before:
             raise items.fault()
         tags.add(tag)
-        kits.append((row, tag))
-    return kits
+        before = row
+        yield row, tag
 
 
 def read_record(items, version, parts):

@@ -26,11 +26,12 @@ use Rattle.sheet.specs.Bytes.{inBytes, valueFrom}
 use Rattle.sheet.specs.Sheet.{version, encodeAs, encode, numberItem, numberItems, lineItems, recordItem, recordItems}
 use Rattle.sheet.specs.Reading.{onward, one, bytes, anyTwo, isVersion, goodPartCount, numberSize, newNumber, numbers, recordSize}
 use Rattle.sheet.specs.Reading.{linesRead, listIn, kitIn, hasTag, follows, newKit, unless, records, front, runOf, whole, decode}
-use Rattle.sheet.specs.Reading.{isFault, offset, said}
-use Rattle.sheet.specs.Calls.{roomRefusals, sheetRefusals}
+use Rattle.sheet.specs.Reading.{isFault, offset, said, salvaged, salvage, rescued}
+use Rattle.sheet.specs.Calls.{roomRefusals, sheetRefusals, salvageRefusals, reportOf}
 use Rattle.sheet_read.specs.Filling.{filling}
 use Rattle.tables.specs.Lent.{lengths, lentBoth, lentList}
 use Rattle.catalogue.specs.Calls.{planOf, inserting, deleting, allKits, almostKits, anyKit, writing, emptying, finding, reading, counting, turning}
+use Rattle.catalogue.specs.Calls.{salvaging}
 use Rattle.demands.specs.Model.{run, begun, tablesOf, log}
 
 unfoldable pub opened : Bool
@@ -46,6 +47,7 @@ unfolding allb anyb every keep distinct concat eqList from firstOr laid decide a
     goodUnits goodBookmark rowShown comesAfter following movedOn turnPage turning inBytes
     valueFrom version encodeAs encode numberItem numberItems lineItems recordItem recordItems onward one bytes anyTwo isVersion goodPartCount numberSize
     newNumber numbers recordSize linesRead listIn kitIn hasTag follows newKit unless records front runOf whole decode isFault offset
-    said roomRefusals sheetRefusals filling lengths lentBoth lentList planOf inserting deleting allKits almostKits anyKit writing
+    said salvaged salvage rescued roomRefusals sheetRefusals salvageRefusals reportOf salvaging
+    filling lengths lentBoth lentList planOf inserting deleting allKits almostKits anyKit writing
     emptying finding reading counting run begun tablesOf log
 opened = true

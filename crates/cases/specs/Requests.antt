@@ -1,9 +1,9 @@
--- What requests 3, 4, 6, 7 and 14 ask, in literal numbers. Computed. The law that proves a statement stands behind "Proof", in proofs/Requests.
+-- What requests 3, 4, 6, 7, 12 and 14 ask, in literal numbers. Computed. The law that proves a statement stands behind "Proof", in proofs/Requests.
 use mathlib.Core.Path.{_≡_}
 use mathlib.Core.Bool.{true, false}
 use mathlib.Core.List.{List, [], _∷_, _++_, map}
 use Prim.Native.Nat.{ℕ, _-_, _*_}
-use lib.ListN.{length, replicate}
+use lib.ListN.{length, replicate, take}
 use Rattle.ground.specs.Calls.{Reply, done, refused, answer, memory, both}
 use Rattle.ground.specs.Tables.{Tables, tables}
 use Rattle.register.specs.Register.{registerSound}
@@ -12,11 +12,13 @@ use Rattle.nodes.specs.Nodes.{wordsPerNode}
 use Rattle.questions.specs.Questions.{isWithin, isContaining}
 use Rattle.pages.specs.declared.Bookmark.{Bookmark}
 use Rattle.sheet.specs.Reading.{item, fault, decode}
+use Rattle.sheet.specs.declared.Report.{Report}
 use Rattle.catalogue.specs.Calls.{registerPart, lookUp, showAt, planOf, inserting, finding, deleting, anyKit, almostKits, reading, writing, counting}
-use Rattle.catalogue.specs.Calls.{deleteKit, insertKit, turning}
+use Rattle.catalogue.specs.Calls.{deleteKit, insertKit, turning, salvaging}
 use Rattle.demands.specs.Model.{has}
 use Rattle.demands.specs.Before.{decodeBefore}
 use Rattle.demands.specs.Pages.{pagesAmong, pagesFrom}
+use Rattle.demands.specs.Rescue.{reportIn, reports}
 use Rattle.cases.specs.ShortCases.{holding, holdingEmpty, listedOf, exampleSheet, exampleSays}
 use Rattle.cases.specs.Limits.{emptyTables, badRegister, fiveParts, sixtyAnd}
 
@@ -196,3 +198,52 @@ EmptyCases =
     × (memory (writing (readBefore 7) (replicate 27 9)) (replicate 27 9) ≡ sheetNow)
     × (answer (finding [] (readBefore 7)) ≡ refused 11 0)
     × (answer (reading (sheetBefore 9) (emptyTables 3 3)) ≡ refused 13 18)
+
+------------------------------------------------------------------------
+-- Request 12: a torn sheet, of the parts A, B and C
+
+-- the sheet of kits (1) and (1, 3), with this quantity in the first line
+abbrev pub quantityIn : ℕ → List ℕ
+quantityIn q =
+    0x4B ∷ 0x49 ∷ 0x54 ∷ 0 ∷ 1 ∷ 0 ∷ 3 ∷ 1 ∷ 0x41 ∷ 1 ∷ 0x42 ∷ 1 ∷ 0x43 ∷ 0 ∷ 2
+    ∷ 0 ∷ 9 ∷ 1 ∷ 1 ∷ q
+    ∷ 0 ∷ 5 ∷ 2 ∷ 1 ∷ 1 ∷ 3 ∷ 1 ∷ []
+
+-- what is reported of a sheet, with three slots and so many nodes
+unfoldable pub reportWith : ℕ → List ℕ → Report
+reportWith n s = reportIn s (emptyTables 3 n)
+
+-- the sheet written after it was salvaged into tables that were no sound ones
+unfoldable pub writtenAfter : ℕ → List ℕ → List ℕ
+writtenAfter n s =
+    let T = tables (replicate 96 7) (replicate (3 * wordsPerNode) 7) in
+    let M = memory (salvaging s T) T in
+    memory (writing M (replicate n 9)) (replicate n 9)
+
+-- the sheet with the kit (1) alone
+abbrev pub sheetOfOne : List ℕ
+sheetOfOne = 0x4B ∷ 0x49 ∷ 0x54 ∷ 0 ∷ 1 ∷ 0 ∷ 3 ∷ 1 ∷ 0x41 ∷ 1 ∷ 0x42 ∷ 1 ∷ 0x43 ∷ 0 ∷ 1 ∷ 0 ∷ 9 ∷ 1 ∷ 1 ∷ 1 ∷ []
+
+-- [14.16] Proof: `rescue-cases`
+abbrev pub RescueCases : Type 0
+RescueCases =
+    -- whole; cut in the second record, before it, in the first record, and behind the kit count
+    (reportWith 3 sheetNow ≡ reports 2 2 27)
+    × (map (λ n. reportWith 3 (take n sheetNow)) (26 ∷ 20 ∷ 19 ∷ 15 ∷ []) ≡ reports 1 2 20 ∷ reports 1 2 20 ∷ reports 0 2 15 ∷ reports 0 2 15 ∷ [])
+    -- cut in the kit count, in a number, in the mark: 13, and its value in the third place
+    × (map (λ n. reportWith 3 (take n sheetNow)) (14 ∷ 12 ∷ 2 ∷ []) ≡ reports 0 0 13 ∷ reports 0 0 11 ∷ reports 0 0 0 ∷ [])
+    × (answer (salvaging (take 14 sheetNow) (emptyTables 3 3)) ≡ refused 13 13)
+    -- a record at fault, with a faultless one behind it
+    × (reportWith 3 (quantityIn 16) ≡ reports 0 2 15)
+    -- an empty kit first: announced, and not kept; cut, the offset is not moved by it
+    × (reportWith 3 (sheetBefore 7) ≡ reports 2 3 30)
+    × (reportWith 3 (take 29 (sheetBefore 7)) ≡ reports 1 3 23)
+    -- bytes behind the last record announced
+    × (reportWith 3 (sheetNow ++ (0 ∷ 0 ∷ [])) ≡ reports 2 2 27)
+    -- "12 for the kept part": three nodes for both kits, two for the first; four slots are never wanted
+    × (map (λ s. answer (salvaging s (emptyTables 3 2))) (sheetNow ∷ take 26 sheetNow ∷ []) ≡ refused 12 3 ∷ done 1 ∷ [])
+    × (reportWith 2 sheetNow ≡ reports 0 0 3)
+    × (answer (salvaging (take 15 sheetNow) (emptyTables 2 1)) ≡ refused 12 3)
+    -- written afterwards: the faultless sheet with just those kits
+    × (writtenAfter 20 (take 26 sheetNow) ≡ sheetOfOne)
+    × (writtenAfter 27 (sheetNow ++ (0 ∷ [])) ≡ sheetNow)

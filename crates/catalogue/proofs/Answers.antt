@@ -33,12 +33,18 @@ use Rattle.shortfalls.specs.Shortfalls.{mostShort, almostTags, almostShorts, li
 use Rattle.pages.specs.Pages.{goodBookmark, turnPage}
 use Rattle.pages.specs.declared.Bookmark.{Bookmark}
 use Rattle.sheet.specs.Sheet.{encode}
+use Rattle.sheet.specs.Reading.{Salvage, salvage, rescued}
 use Rattle.sheet.specs.Calls as sheet
+use Rattle.sheet.specs.declared.Report.{Report}
 use Rattle.sheet_read.specs.Inner as filling
+use Rattle.sheet_read.specs.declared.Salvaged.{Salvaged}
+use Rattle.sheet_read.proofs.Promised.{reported-refused}
+use Rattle.answers.specs.declared.Answer.{Answer}
+use Rattle.answers.specs.Answers.{reply}
 use Rattle.ground.specs.Tables.{Tables, tables}
 use Rattle.tables.specs.Lent.{partCount, lengths, lentBoth, lentList}
 use Rattle.catalogue.specs.Calls.{contents, emptying, inserting, finding, deleting, counting, anyKit, allKits, almostKits, turning}
-use Rattle.catalogue.specs.Calls.{writing, reading}
+use Rattle.catalogue.specs.Calls.{writing, reading, salvaging, Rescues}
 
 -- the row of a list that has room, as it is lent on by value
 module _ (w : Row) (l : List ℕ) (is : w ≡ fixedRow (units l)) where
@@ -84,6 +90,24 @@ module _ (R N : List ℕ) where
         Promise (reading s (tables R N)) (tables R N) p T′
     unfolding reading filling.readingInto
     read-done p T′ e i = promise-behind (lengths (tables R N)) _ _ _ (tables R N) p T′ 0 (ap isRefused (sym is) ∙ e) i
+
+  -- Salvaging one
+  module _ (s : List ℕ) (a : Answer) (is : reply a ≡ decide (lengths (tables R N)) 0) where
+    pub rescue-refused : (p : Report) (x : Salvage) → isRefused (reply a) ≡ true → p ≡ sheet.reportOf (reply a) x →
+        Rescues s R N (record { answer = a; report = p }) R N
+    unfolding salvaging
+    rescue-refused p x e f = record {
+      promised = promise-front (lengths (tables R N)) _ _ _ (tables R N) (reply a) 0 is e;
+      reported = reported-refused (reply a) x (rescued (salvage s)) e f;
+    }
+
+    pub rescue-done : (x : Salvaged) (R′ N′ : List ℕ) → isRefused (reply a) ≡ false →
+        filling.SalvagePromise s (tables R N) x (tables R′ N′) → Rescues s R N x R′ N′
+    unfolding salvaging filling.salvagingInto
+    rescue-done x R′ N′ e i = record {
+      promised = promise-behind (lengths (tables R N)) _ _ _ (tables R N) _ _ 0 (ap isRefused (sym is) ∙ e) (i .promised);
+      reported = i .reported;
+    }
 
   -- Writing the sheet
   pub write-refused : (o : List ℕ) (r : Reply) → r ≡ decide (lentBoth (tables R N)) 0 → isRefused r ≡ true →

@@ -1,5 +1,6 @@
 -- Document 01, "Calls and what they answer": the calls that are lent both tables, each as the list of its refusals in the paper's order,
 -- its value, and what it leaves in the memory that it may write.
+use mathlib.Core.Path.{_≡_}
 use mathlib.Core.Bool.{Bool, not}
 use mathlib.Core.List.{List, [], _∷_, _++_}
 use Prim.Native.Nat.{ℕ}
@@ -21,9 +22,10 @@ use Rattle.shortfalls.specs.Shortfalls.{mostShort, listAlmost}
 use Rattle.pages.specs.Pages.{goodBookmark, turnPage}
 use Rattle.pages.specs.declared.Bookmark.{Bookmark}
 use Rattle.sheet.specs.Sheet.{Contents, contentsOf, withoutEmpty, encode}
-use Rattle.sheet.specs.Reading.{decode, said}
-use Rattle.sheet.specs.Calls.{sheetRefusals}
+use Rattle.sheet.specs.Reading.{decode, said, salvage, rescued}
+use Rattle.sheet.specs.Calls.{sheetRefusals, salvageRefusals, reportOf}
 use Rattle.sheet_read.specs.Filling.{filling}
+use Rattle.sheet_read.specs.declared.Salvaged.{Salvaged}
 use Rattle.answers.specs.declared.Answer.{Answer}
 use Rattle.answers.specs.Answers.{reply}
 use Rattle.ground.specs.Tables.{Tables, tables}
@@ -98,6 +100,14 @@ reading s T =
     (length (withoutEmpty (said (decode s)) .kits))
     (filling (withoutEmpty (said (decode s))) T)
 
+-- [10.17, 12.22] "The salvage call .. fills the tables as reading would from a sheet with just those kits": "1 as in reading, then 13 up to the kit
+-- count, then 12 for the kept part"; an empty kit is dropped, and not counted among the kits kept
+unfoldable pub salvaging : List ℕ → Tables → Plan Tables
+salvaging s T =
+    plan (lengths T ++ salvageRefusals s (slotCount (T .register)) (size (T .nodes)))
+    (length (withoutEmpty (rescued (salvage s) .kept) .kits))
+    (filling (withoutEmpty (rescued (salvage s) .kept)) T)
+
 -- What a call that may write the tables promises of its answer and of the tables R′ and N′ afterwards
 abbrev pub Leaves : (Tables → Plan Tables) → List ℕ → List ℕ → Answer → List ℕ → List ℕ → Type 0
 Leaves call R N a R′ N′ = Promise (call (tables R N)) (tables R N) (reply a) (tables R′ N′)
@@ -110,6 +120,11 @@ Sets call o a p = Promise (call o) o (reply a) p
 abbrev pub Turns : Question → List ℕ → List ℕ → List ℕ → Bookmark → Answer → Bookmark → Type 0
 Turns question R N l b a c = Promise (turning question l (tables R N) b) b (reply a) c
 
+-- what salvage promises: of its answer and the tables as any call, and the three numbers of its report
+pub record Rescues (s R N : List ℕ) (x : Salvaged) (R′ N′ : List ℕ) : Type 0 where
+  pub promised : Leaves (salvaging s) R N (x .answer) R′ N′
+  pub reported : x .report ≡ reportOf (reply (x .answer)) (rescued (salvage s))
+
 -- A call, with what is lent to it besides the tables
 pub data Call : Type 0 where
   emptyBoth : Call
@@ -120,7 +135,7 @@ pub data Call : Type 0 where
   allWithin allContaining : List ℕ → List ℕ → Call
   allAlmost : ℕ → List ℕ → Both → Call
   turnWithin turnContaining : List ℕ → Bookmark → Call
-  writeSheet readSheet : List ℕ → Call
+  writeSheet readSheet salvageSheet : List ℕ → Call
 
 -- a call on the register alone
 abbrev pub onRegister : Tables → Plan (List ℕ) → Plan Tables
@@ -148,3 +163,4 @@ planOf (turnWithin l b) T = apart T (turning isWithin l T b)
 planOf (turnContaining l b) T = apart T (turning isContaining l T b)
 planOf (writeSheet o) T = apart T (writing T o)
 planOf (readSheet s) T = reading s T
+planOf (salvageSheet s) T = salvaging s T

@@ -6,11 +6,13 @@ ghost use Rattle.questions.specs.Questions.{isWithin, isContaining};
 ghost use Rattle.ground.specs.Tables.{tables};
 ghost use Rattle.answers.specs.Answers.{reply};
 ghost use Rattle.catalogue.specs.Calls.{emptying, inserting, finding, deleting, counting, anyKit, allKits, almostKits, writing, reading};
-ghost use Rattle.catalogue.specs.Calls.{Leaves, Sets, Turns};
+ghost use Rattle.catalogue.specs.Calls.{Leaves, Sets, Turns, Rescues};
 use answers::Answer;
 use answers::refused;
 use pages::Bookmark;
 use pages::Page;
+use sheet_read::Salvaged;
+use sheet_read::report_of;
 use tables::check_lengths;
 use tables::check_tables;
 
@@ -186,4 +188,19 @@ pub fn read_sheet(reg: &mut [u8], nodes: &mut [u16], s: &[u8]) -> Answer
         return sized;
     }
     sheet_read::read_sheet(reg, nodes, s)
+}
+
+// Request 12, "Rescue a torn sheet": fills both tables with what is kept of it; "reports the kits kept, the kits announced, and the offset of the
+// first fault or else the sheet's length". The report is part of the answer, not lent.
+pub fn salvage(reg: &mut [u8], nodes: &mut [u16], s: &[u8]) -> Salvaged
+    ensures { λ r. ⌜ Rescues (now (s .entry)) (now (reg .entry)) (now (nodes .entry)) r (now (reg .exit)) (now (nodes .exit)) ⌝ }
+{
+    let sized = check_lengths(reg, nodes);
+    if refused(sized) {
+        return Salvaged {
+            answer: sized,
+            report: report_of(sized, 0, 0),
+        };
+    }
+    sheet_read::salvage(reg, nodes, s)
 }

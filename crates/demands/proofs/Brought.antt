@@ -1,7 +1,7 @@
 -- What stays true of a catalogue that calls bring on: its tables are sound, and have the parts and the kits that its accepted calls left.
 use mathlib.Core.Path.{_≡_, refl, sym, ap, subst, _∙_}
 use mathlib.Core.Logic.{_≢_, ⊎-elim}
-use mathlib.Core.Bool.{true}
+use mathlib.Core.Bool.{true, false}
 use mathlib.Core.List.{List, [], _∷_, _++_, List·Memᴰ, List·Memᴰ·not-nil, Memᴰ·cast}
 use Prim.Native.Nat.{ℕ, _+_, _*_, _<_}
 use native.Mathlib.Omega.{arith}
@@ -10,7 +10,7 @@ use borrow.Author.Tests.{ltb-true, not-false}
 use Rattle.ground.specs.Limits.{twoLimit}
 use Rattle.ground.specs.Lists.{keep}
 use Rattle.ground.specs.Laid.{zeroed}
-use Rattle.ground.specs.Calls.{Reply, done, refused, answer, leaves, memory}
+use Rattle.ground.specs.Calls.{Case, Reply, done, refused, isRefused, decide, answer, leaves, memory}
 use Rattle.ground.proofs.Laws.{every-at}
 use Rattle.ground.proofs.Calls.{done-passes, leaves-done}
 use Rattle.register.specs.Register.{slotBytes, partsOf, registerLength}
@@ -34,20 +34,22 @@ use Rattle.index.proofs.Kept.{insert-growth, held-after-insert, listed-after-in
 use Rattle.sheet.specs.Bytes.{Bytes}
 use Rattle.sheet.specs.Sheet.{Contents, withoutEmpty, encode}
 use Rattle.sheet.specs.Inner.{goodKit, fitsSheet}
-use Rattle.sheet.specs.Reading.{decode, said}
-use Rattle.sheet.proofs.Fits.{Fits, fitting-fits, rising-earlier}
-use Rattle.sheet_read.specs.Filling.{filling}
+use Rattle.sheet.specs.Reading.{decode, said, isFault, salvage, rescued}
+use Rattle.sheet.specs.Calls.{salvageRefusals}
+use Rattle.sheet.proofs.Fits.{fitting-fits, rising-earlier}
 use Rattle.sheet_read.specs.Inner as read
 use Rattle.sheet_read.proofs.Reading as filled
+use Rattle.sheet_read.proofs.Rescued.{kept-fits, salvage-leaves, salvage-has}
 use Rattle.sheet_read.proofs.RoundTrip.{SmallTags, words-small}
 use Rattle.ground.specs.Tables.{Tables, tables}
 use Rattle.tables.specs.Lent.{lengths}
 use Rattle.tables.specs.Inner.{SoundTables}
+use Rattle.tables.proofs.Lent.{lengths-passed}
 use Rattle.catalogue.proofs.Kept.{done-parts, same-register-length, same-nodes-length, room-fits, zeros-again, Insertion, insertion, delete-held}
 use Rattle.catalogue.proofs.Kept.{empty-sound, register-keeps-sound, insert-keeps-sound, delete-keeps-sound}
 use Rattle.catalogue.specs.Calls.{Call, emptyBoth, registerPart, lookUp, showAt, insertKit, findKit, deleteKit, anyWithin, anyContaining}
-use Rattle.catalogue.specs.Calls.{allWithin, allContaining, allAlmost, writeSheet, readSheet, planOf, emptying, inserting, finding}
-use Rattle.catalogue.specs.Calls.{contents, countKits, turnWithin, turnContaining, deleting, counting, anyKit, reading}
+use Rattle.catalogue.specs.Calls.{allWithin, allContaining, allAlmost, writeSheet, readSheet, salvageSheet, planOf, emptying, inserting, finding}
+use Rattle.catalogue.specs.Calls.{contents, countKits, turnWithin, turnContaining, deleting, counting, anyKit, reading, salvaging}
 use Rattle.demands.specs.Model as demand
 use Rattle.demands.specs.Model.{has, step, model, run, log, TypesSay, Words, Catalogue, Allowed, begun}
 use Rattle.demands.specs.Model.{tablesOf, entered}
@@ -194,85 +196,102 @@ delete-kept : (l : List ℕ) (T : Tables) (m : Contents) (v : ℕ) → answer (d
 unfolding deleting
 delete-kept l T m v e b = deleted (units l) (T .register) (T .nodes) m b (delete-held l T v e)
 
--- A sheet read
-module _ (s : List ℕ) (T : Tables) (v : ℕ) (h : Bytes s) (fits : registerLength (T .register) ≡ true)
-    (sized : nodesLength (T .nodes) ≡ true) (e : answer (read.readingInto s T) ≡ done v) where
-  abbrev c : Contents
-  c = said (decode s)
+-- the kits of contents that fit the format stand in listing order
+pub sheet-rises : (c : Contents) → fitsSheet c ≡ true → Rising Earlier (c .kits)
+sheet-rises c fits = rising-earlier (c .kits) (fitting-fits c fits .kits-rise)
 
-  abbrev F : Tables
-  F = filling (withoutEmpty (said (decode s))) T
+-- Tables that were filled with contents that fit the format, but for an empty kit
+module _ (c : Contents) (fits : fitsSheet c ≡ true) (T F : Tables) (H : filled.Has (withoutEmpty c) T F) where
+  in-order : Rising Earlier (withUnits (c .kits))
+  in-order = rising-keep someUnit (c .kits) (sheet-rises c fits)
 
-  again : (encode (said (decode s)) ≡ s) × (fitsSheet (said (decode s)) ≡ true)
-  again = filled.said-again s h (filled.accepted s T v e .faultless)
-
-  what-fits : Fits (said (decode s))
-  what-fits = fitting-fits c (again .1)
-
-  pub what-is-in : filled.Has (withoutEmpty (said (decode s))) T (filling (withoutEmpty (said (decode s))) T)
-  what-is-in = subst (filled.Has (withoutEmpty c) T) (filled.reading-leaves s h T fits sized v e) (filled.reading-has s h T fits sized v e)
-
-  rises : Rising Earlier (said (decode s) .kits)
-  rises = rising-earlier (c .kits) (what-fits .kits-rise)
-
-  in-order : Rising Earlier (withUnits (said (decode s) .kits))
-  in-order = rising-keep someUnit (c .kits) rises
-
-  small-tags : SmallTags (filling (withoutEmpty (said (decode s))) T .nodes)
+  small-tags : SmallTags (F .nodes)
   unfolding goodKit
   small-tags k i =
-      let m : List·Memᴰ k (c .kits) = units-mem k (c .kits) .0 (subst (List·Memᴰ k) (what-is-in .kits) i) .0 in
-      ltb-true (k .tag) twoLimit (every-at _ 1 (allb-mem (goodKit (length (c .parts))) (c .kits) k (what-fits .kits-good) m))
+      let m : List·Memᴰ k (c .kits) = units-mem k (c .kits) .0 (subst (List·Memᴰ k) (H .kits) i) .0 in
+      ltb-true (k .tag) twoLimit (every-at _ 1 (allb-mem (goodKit (length (c .parts))) (c .kits) k (fitting-fits c fits .kits-good) m))
 
-  read-in : Brought (filling (withoutEmpty (said (decode s))) T) (withoutEmpty (said (decode s)))
-  read-in =
-      let z : nodesLength (F .nodes) ≡ true = same-nodes-length (T .nodes) (F .nodes) (what-is-in .nodes-length) sized in
-      let p = what-is-in .parts in
+  filled-in : registerLength (T .register) ≡ true → nodesLength (T .nodes) ≡ true → Brought F (withoutEmpty c)
+  filled-in long sized =
+      let z : nodesLength (F .nodes) ≡ true = same-nodes-length (T .nodes) (F .nodes) (H .nodes-length) sized in
+      let p = H .parts in
       record {
         both = record {
           ready =
               record {
-                fits = same-register-length (T .register) (F .register) (what-is-in .register-length) fits;
-                sound = what-is-in .register-sound;
+                fits = same-register-length (T .register) (F .register) (H .register-length) long;
+                sound = H .register-sound;
               };
           sized = z;
-          sound = rw p (sound-exactly (length (c .parts)) (F .nodes) z .0 (what-is-in .nodes-sound));
+          sound = rw p (sound-exactly (length (c .parts)) (F .nodes) z .0 (H .nodes-sound));
         };
         parts = p;
-        kits = sym (what-is-in .none-empty) ∙ what-is-in .kits ∙ sym (order-same (withUnits (c .kits)) in-order);
+        kits = sym (H .none-empty) ∙ H .kits ∙ sym (order-same (withUnits (c .kits)) in-order);
         apart = apart in-order;
         small = small-tags;
       }
 
--- what an accepted reading was given
+-- a call that asks for the lengths and is done was lent tables of right lengths
+lengths-good : (T : Tables) (ds : List Case) (w v : ℕ) → decide (lengths T ++ ds) w ≡ done v →
+    (registerLength (T .register) ≡ true) × (nodesLength (T .nodes) ≡ true)
+lengths-good T ds w v e = lengths-passed (T .register) (T .nodes) (ap isRefused (done-parts (lengths T) ds 0 w v e .0))
+
+-- A sheet read
 module _ (s : List ℕ) (T : Tables) (v : ℕ) (h : Bytes s) (e : answer (reading s T) ≡ done v) where
-  lengths-good : (registerLength (T .register) ≡ true) × (nodesLength (T .nodes) ≡ true)
-  unfolding answer reading lengths
-  lengths-good =
-      let a = done-parts (lengths T) _ 0 _ v e in
-      let x = done-passes _ _ _ _ (a .0) in
-      let y = done-passes _ _ _ _ (x .1) in
-      (not-false _ (x .0), not-false _ (y .0))
+  long : (registerLength (T .register) ≡ true) × (nodesLength (T .nodes) ≡ true)
+  unfolding answer reading
+  long = lengths-good T _ _ v e
 
   pub behind-lengths : answer (read.readingInto s T) ≡ done v
   unfolding answer reading read.readingInto
   behind-lengths = done-parts (lengths T) _ 0 _ v e .1
 
+  again : (encode (said (decode s)) ≡ s) × (fitsSheet (said (decode s)) ≡ true)
+  again = filled.said-again s h (filled.accepted s T v behind-lengths .faultless)
+
   -- the tables that it leaves have just what it takes of the sheet, and their old lengths
   pub what-was-read : filled.Has (withoutEmpty (said (decode s))) T (reading s T .after)
   unfolding reading
-  what-was-read = what-is-in s T v h (lengths-good .0) (lengths-good .1) behind-lengths
+  what-was-read =
+      subst (filled.Has (withoutEmpty (said (decode s))) T) (filled.reading-leaves s h T (long .0) (long .1) v behind-lengths)
+      (filled.reading-has s h T (long .0) (long .1) v behind-lengths)
 
   pub read-kept : Brought (reading s T .after) (withoutEmpty (said (decode s)))
-  unfolding reading
-  read-kept = read-in s T v h (lengths-good .0) (lengths-good .1) behind-lengths
+  read-kept = filled-in (said (decode s)) (again .1) T (reading s T .after) what-was-read (long .0) (long .1)
 
   -- it was the sheet of what it said, in listing order
   pub sheet-said : encode (said (decode s)) ≡ s
-  sheet-said = again s T v h (lengths-good .0) (lengths-good .1) behind-lengths .0
+  sheet-said = again .0
 
   pub said-rises : Rising Earlier (said (decode s) .kits)
-  said-rises = rises s T v h (lengths-good .0) (lengths-good .1) behind-lengths
+  said-rises = sheet-rises (said (decode s)) (again .1)
+
+-- A torn sheet salvaged
+module _ (s : List ℕ) (T : Tables) (v : ℕ) (h : Bytes s) (e : answer (salvaging s T) ≡ done v) where
+  pub rescue-lengths : (registerLength (T .register) ≡ true) × (nodesLength (T .nodes) ≡ true)
+  unfolding answer salvaging
+  rescue-lengths = lengths-good T _ _ v e
+
+  pub rescue-behind : answer (read.salvagingInto s T) ≡ done v
+  unfolding answer salvaging read.salvagingInto
+  rescue-behind = done-parts (lengths T) _ 0 _ v e .1
+
+  -- its front was without fault, and what is kept fits the format
+  pub front-faultless : isFault (salvage s) ≡ false
+  unfolding answer read.salvagingInto salvageRefusals
+  front-faultless = done-passes _ _ _ _ rescue-behind .0
+
+  pub rescue-fits : fitsSheet (rescued (salvage s) .kept) ≡ true
+  rescue-fits = kept-fits s h front-faultless
+
+  pub what-was-rescued : filled.Has (withoutEmpty (rescued (salvage s) .kept)) T (salvaging s T .after)
+  unfolding salvaging
+  what-was-rescued =
+      subst (filled.Has (withoutEmpty (rescued (salvage s) .kept)) T) (salvage-leaves s h T (rescue-lengths .0) (rescue-lengths .1) v rescue-behind)
+      (salvage-has s h T (rescue-lengths .0) (rescue-lengths .1) v rescue-behind)
+
+  pub rescue-kept : Brought (salvaging s T .after) (withoutEmpty (rescued (salvage s) .kept))
+  rescue-kept = filled-in (rescued (salvage s) .kept) rescue-fits T (salvaging s T .after) what-was-rescued (rescue-lengths .0) (rescue-lengths .1)
 
 pub done-keeps : (c : Call) (T : Tables) (m : Contents) (v : ℕ) → TypesSay c → answer (planOf c T) ≡ done v → Brought T m →
     Brought (planOf c T .after) (demand.accepted c m)
@@ -294,6 +313,7 @@ done-keeps (turnWithin l k) T m v y e b = b
 done-keeps (turnContaining l k) T m v y e b = b
 done-keeps (writeSheet o) T m v y e b = b
 done-keeps (readSheet s) T m v y e b = read-kept s T v (y .sheet s refl) e
+done-keeps (salvageSheet s) T m v y e b = rescue-kept s T v (y .torn-sheet s refl) e
 
 -- A call, done or refused
 pub call-keeps : (c : Call) (T : Tables) (m : Contents) → TypesSay c → Brought T m →
@@ -325,7 +345,11 @@ begun-empty a h =
 
 pub all-typed : (a : Catalogue) → Allowed a → Every TypesSay (a .calls)
 all-typed a h =
-    mem-every (a .calls) (λ c m. record { tag = λ l t e. h .tags l t (Memᴰ·cast e m); sheet = λ s e. h .sheets s (Memᴰ·cast e m) })
+    mem-every (a .calls) (λ c m. record {
+      tag = λ l t e. h .tags l t (Memᴰ·cast e m);
+      sheet = λ s e. h .sheets s (Memᴰ·cast e m);
+      torn-sheet = λ s e. h .torn-sheets s (Memᴰ·cast e m);
+    })
 
 -- The law: the tables of a catalogue are sound and have what its accepted calls left.
 pub brought : (a : Catalogue) → Allowed a → Brought (tablesOf a) (entered a)

@@ -18,11 +18,11 @@ use Rattle.nodes.specs.Sound.{nodesSound}
 use Rattle.nodes.proofs.Sorted.{Every, none, also, every-append}
 use Rattle.index.specs.Index.{entryRefusals, missingRefusals}
 use Rattle.pages.specs.Pages.{turnPage}
-use Rattle.sheet.specs.Calls.{sheetRefusals, roomRefusals}
+use Rattle.sheet.specs.Calls.{sheetRefusals, roomRefusals, salvageRefusals}
 use Rattle.tables.specs.Lent.{partCount, lengths, lentBoth, lentList}
 use Rattle.catalogue.specs.Calls.{Call, emptyBoth, registerPart, lookUp, showAt, insertKit, findKit, deleteKit, anyWithin, anyContaining}
-use Rattle.catalogue.specs.Calls.{allWithin, allContaining, allAlmost, writeSheet, readSheet, planOf, emptying, inserting, finding}
-use Rattle.catalogue.specs.Calls.{countKits, turnWithin, turnContaining, deleting, counting, anyKit, allKits, almostKits, turning, writing, reading}
+use Rattle.catalogue.specs.Calls.{allWithin, allContaining, allAlmost, writeSheet, readSheet, salvageSheet, planOf, emptying, inserting, finding}
+use Rattle.catalogue.specs.Calls.{countKits, turnWithin, turnContaining, deleting, counting, anyKit, allKits, almostKits, turning, writing, reading, salvaging}
 use Rattle.demands.specs.Demand1.{TablesAsked, theRegister, theLengths, bothTables, asksOf, LengthWrong, TableUnsound, OneExactly, TwoExactly}
 
 ------------------------------------------------------------------------
@@ -116,7 +116,7 @@ record Fronted (c : Call) (T : Tables) : Type 0 where
 fronted : (c : Call) (T : Tables) → Fronted c T
 unfolding planOf what-is-asked asksOf lentRegister lengths lentBoth lentList emptying registering numberRefusals lookingUp showing inserting
     entryRefusals finding deleting missingRefusals counting anyKit allKits almostKits setBoth turning turnPage writing setDown reading
-    sheetRefusals roomRefusals
+    sheetRefusals roomRefusals salvaging salvageRefusals
 fronted emptyBoth T = record { rest = []; cases = refl; above = none }
 fronted (registerPart n) T = record { rest = _; cases = refl; above = also refl (also refl (also refl (also refl none))) }
 fronted (lookUp n) T = record { rest = _; cases = refl; above = also refl (also refl none) }
@@ -142,6 +142,7 @@ fronted (turnWithin l b) T = record { rest = _; cases = refl; above = every-appe
 fronted (turnContaining l b) T = record { rest = _; cases = refl; above = every-append (list-above (partCount T) l) (also refl none) }
 fronted (writeSheet o) T = record { rest = _; cases = refl; above = also refl none }
 fronted (readSheet s) T = record { rest = _; cases = refl; above = also refl (also refl (also refl none)) }
+fronted (salvageSheet s) T = record { rest = _; cases = refl; above = also refl (also refl (also refl none)) }
 
 ------------------------------------------------------------------------
 -- The statements

@@ -14,11 +14,11 @@ use Rattle.kits.specs.Kits.{lineFaults, linesFaults, listFaults}
 use Rattle.nodes.proofs.Sorted.{Every, none, also, every-append}
 use Rattle.index.specs.Index.{entryRefusals, missingRefusals}
 use Rattle.pages.specs.Pages.{turnPage}
-use Rattle.sheet.specs.Calls.{sheetRefusals, roomRefusals}
+use Rattle.sheet.specs.Calls.{sheetRefusals, roomRefusals, salvageRefusals}
 use Rattle.tables.specs.Lent.{partCount, lengths, lentBoth, lentList}
 use Rattle.catalogue.specs.Calls.{Call, emptyBoth, registerPart, lookUp, showAt, insertKit, findKit, deleteKit, anyWithin, anyContaining}
-use Rattle.catalogue.specs.Calls.{allWithin, allContaining, allAlmost, writeSheet, readSheet, planOf, emptying, inserting, finding}
-use Rattle.catalogue.specs.Calls.{countKits, turnWithin, turnContaining, deleting, counting, anyKit, allKits, almostKits, turning, writing, reading}
+use Rattle.catalogue.specs.Calls.{allWithin, allContaining, allAlmost, writeSheet, readSheet, salvageSheet, planOf, emptying, inserting, finding}
+use Rattle.catalogue.specs.Calls.{countKits, turnWithin, turnContaining, deleting, counting, anyKit, allKits, almostKits, turning, writing, reading, salvaging}
 use Rattle.demands.specs.Demand1.{numbersGiven, NumbersLaidDown}
 
 -- its number is among some
@@ -49,7 +49,7 @@ module _ (ns : List ℕ) (four : anyb (eqb 4) ns ≡ true) (five : anyb (eqb 5) 
 cases-in : (c : Call) (T : Tables) → Every (NumberIn (numbersGiven c)) (planOf c T .cases)
 unfolding anyb numbersGiven planOf lentRegister lengths lentBoth lentList emptying registering numberRefusals lookingUp showing inserting
     entryRefusals finding deleting missingRefusals counting anyKit allKits almostKits setBoth turning turnPage writing setDown reading
-    sheetRefusals roomRefusals
+    sheetRefusals roomRefusals salvaging salvageRefusals
 cases-in emptyBoth T = also refl (also refl none)
 cases-in (registerPart n) T = also refl (also refl (also refl (also refl (also refl (also refl none)))))
 cases-in (lookUp n) T = also refl (also refl (also refl (also refl none)))
@@ -76,6 +76,7 @@ cases-in (turnContaining l b) T =
     also refl (also refl (also refl (also refl (every-append (list-in (numbersGiven (turnContaining l b)) refl refl refl (partCount T) l) (also refl none)))))
 cases-in (writeSheet o) T = also refl (also refl (also refl (also refl (also refl none))))
 cases-in (readSheet s) T = also refl (also refl (also refl (also refl (also refl none))))
+cases-in (salvageSheet s) T = also refl (also refl (also refl (also refl (also refl none))))
 
 pub numbers-laid-down : NumbersLaidDown
 unfolding answer

@@ -24,3 +24,4 @@ pub mod Values
 pub mod Before
 pub mod Versions
 pub mod Torn
+pub mod Rescue

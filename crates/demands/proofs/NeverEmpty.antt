@@ -1,4 +1,4 @@
--- No kit without a unit is ever held: none is inserted, and reading drops it.
+-- No kit without a unit is ever held: none is inserted, and reading and salvage drop it.
 use mathlib.Core.Path.{_≡_, refl, sym, ap, subst, _∙_}
 use mathlib.Core.Bool.{true}
 use mathlib.Core.List.{List, [], _∷_}
@@ -19,12 +19,12 @@ use Rattle.index.proofs.Kept.{held-after-insert, listed-after-insert, held-afte
 use Rattle.sheet.specs.Sheet.{Contents}
 use Rattle.tables.specs.Lent.{partCount}
 use Rattle.catalogue.specs.Calls.{Call, emptyBoth, registerPart, lookUp, showAt, insertKit, findKit, deleteKit, anyWithin, anyContaining}
-use Rattle.catalogue.specs.Calls.{allWithin, allContaining, allAlmost, writeSheet, readSheet, planOf, emptying, inserting, finding}
+use Rattle.catalogue.specs.Calls.{allWithin, allContaining, allAlmost, writeSheet, readSheet, salvageSheet, planOf, emptying, inserting, finding}
 use Rattle.catalogue.specs.Calls.{countKits, turnWithin, turnContaining, deleting, counting, anyKit}
 use Rattle.catalogue.proofs.Kept.{kept-by, zeros-again, insertion, delete-held}
 use Rattle.demands.specs.Model.{has, step, run, TypesSay, Catalogue, Allowed, begun, tablesOf}
 use Rattle.demands.specs.Demand2.{NeverEmpty}
-use Rattle.demands.proofs.Brought.{Brought, what-was-read, call-keeps, begun-empty, all-typed, zeros-list-nothing}
+use Rattle.demands.proofs.Brought.{Brought, what-was-read, what-was-rescued, call-keeps, begun-empty, all-typed, zeros-list-nothing}
 
 -- all that is held is listed
 abbrev pub AllListed : Tables → Type 0
@@ -71,6 +71,7 @@ done-lists (turnWithin l k) T m v y e b all = all
 done-lists (turnContaining l k) T m v y e b all = all
 done-lists (writeSheet o) T m v y e b all = all
 done-lists (readSheet s) T m v y e b all = what-was-read s T v (y .sheet s refl) e .none-empty
+done-lists (salvageSheet s) T m v y e b all = what-was-rescued s T v (y .torn-sheet s refl) e .none-empty
 
 calls-list : (cs : List Call) (T : Tables) (m : Contents) → Every TypesSay cs → Brought T m → AllListed T → AllListed (run cs T)
 unfolding run

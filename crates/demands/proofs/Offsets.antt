@@ -17,7 +17,7 @@ use Rattle.sheet.specs.Sheet.{Contents, mark}
 use Rattle.sheet.specs.Inner.{Width}
 use Rattle.sheet.specs.Reading.{Item, item, fault, Reading, onward, one, bytes, isVersion, goodPartCount, anyTwo, numberSize, newNumber}
 use Rattle.sheet.specs.Reading.{numbers, recordSize, newKit, kitIn, Run, stop, also, unless, records, Front, front, runOf, whole, decode}
-use Rattle.sheet.specs.Reading.{offset}
+use Rattle.sheet.specs.Reading.{offset, Salvage, salvaged, salvage, rescued}
 use Rattle.sheet.proofs.Numbers.{bytes-take, bytes-drop, from-less}
 use Rattle.sheet.proofs.Widths.{lines-most, version-width}
 
@@ -136,7 +136,7 @@ decode-read : (s : List ℕ) → Bytes s → Read Any farthest (decode s)
 unfolding decode
 decode-read s h = onward-read _ (front-read s h) (omega arith) (λ f bs o w l. whole-read (f .parts) (runOf f bs o) (run-far f bs o w l))
 
-offset-far : {m : Item Contents} → Read Any farthest m → offset m ≤ farthest
+offset-far : {A : Type 0} {P : A → List ℕ → Type 0} {m : Item A} → Read P farthest m → offset m ≤ farthest
 unfolding offset
 offset-far (read p h) = omega arith
 offset-far (stopped h) = h
@@ -144,3 +144,25 @@ offset-far (stopped h) = h
 -- "13's value is the offset where the first faulty item starts"
 pub fault-near : (s : List ℕ) → Bytes s → offset (decode s) ≤ farthest
 fault-near s h = offset-far (decode-read s h)
+
+-- and so of salvage: its faults, where the run stops, and the kits announced
+record Near (x : Salvage) (bs : List ℕ) : Type 0 where
+  few : x .announced < twoLimit
+  near : x .stopped ≤ farthest
+
+salvage-read : (s : List ℕ) → Bytes s → Read Near farthest (salvage s)
+unfolding salvage salvaged
+salvage-read s h = onward-read _ (front-read s h) (omega arith) (λ f bs o w l.
+    let d = run-far f bs o w l in
+    read {o = runOf f bs o .offset} (record { few = w .few; near = d }) d)
+
+pub salvage-fault-near : (s : List ℕ) → Bytes s → offset (salvage s) ≤ farthest
+salvage-fault-near s h = offset-far (salvage-read s h)
+
+stop-near : {m : Item Salvage} → Read Near farthest m → (rescued m .announced < twoLimit) × (rescued m .stopped ≤ farthest)
+unfolding rescued
+stop-near (read p h) = (p .few, p .near)
+stop-near (stopped h) = (omega arith, omega arith)
+
+pub stopped-near : (s : List ℕ) → Bytes s → (rescued (salvage s) .announced < twoLimit) × (rescued (salvage s) .stopped ≤ farthest)
+stopped-near s h = stop-near (salvage-read s h)

@@ -18,11 +18,11 @@ use Rattle.sheet.specs.Sheet.{Contents}
 use Rattle.ground.specs.Tables.{Tables, tables}
 use Rattle.tables.specs.Lent.{partCount}
 use Rattle.catalogue.specs.Calls.{Call, emptyBoth, registerPart, lookUp, showAt, insertKit, findKit, deleteKit, anyWithin, anyContaining}
-use Rattle.catalogue.specs.Calls.{allWithin, allContaining, allAlmost, writeSheet, readSheet, planOf, emptying, inserting, finding}
+use Rattle.catalogue.specs.Calls.{allWithin, allContaining, allAlmost, writeSheet, readSheet, salvageSheet, planOf, emptying, inserting, finding}
 use Rattle.catalogue.specs.Calls.{countKits, turnWithin, turnContaining, deleting, counting, anyKit}
 use Rattle.demands.specs.Model.{has, step, run, TypesSay, Catalogue, Allowed, begun, tablesOf}
 use Rattle.catalogue.proofs.Kept.{insertion, delete-held}
-use Rattle.demands.proofs.Brought.{Brought, what-was-read, call-keeps, begun-empty, all-typed}
+use Rattle.demands.proofs.Brought.{Brought, what-was-read, what-was-rescued, call-keeps, begun-empty, all-typed}
 
 -- tables of the same lengths
 pub record Alike (T U : Tables) : Type 0 where
@@ -64,6 +64,8 @@ done-alike (turnContaining l k) T m v y e b = record { register = refl; nodes = 
 done-alike (writeSheet o) T m v y e b = record { register = refl; nodes = refl }
 done-alike (readSheet s) T m v y e b =
     let r = what-was-read s T v (y .sheet s refl) e in record { register = r .register-length; nodes = r .nodes-length }
+done-alike (salvageSheet s) T m v y e b =
+    let r = what-was-rescued s T v (y .torn-sheet s refl) e in record { register = r .register-length; nodes = r .nodes-length }
 
 call-alike : (c : Call) (T : Tables) (m : Contents) → TypesSay c → Brought T m → Alike T (memory (planOf c T) T)
 unfolding memory leaves

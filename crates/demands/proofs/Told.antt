@@ -28,8 +28,8 @@ use Rattle.ground.specs.Tables.{Tables}
 use Rattle.tables.specs.Lent.{lengths, lentList}
 use Rattle.tables.proofs.Lent.{lengths-good}
 use Rattle.catalogue.specs.Calls.{Call, emptyBoth, registerPart, lookUp, showAt, insertKit, findKit, deleteKit, anyWithin, anyContaining}
-use Rattle.catalogue.specs.Calls.{allWithin, allContaining, allAlmost, writeSheet, readSheet, planOf, emptying, inserting, finding}
-use Rattle.catalogue.specs.Calls.{countKits, turnWithin, turnContaining, deleting, reading}
+use Rattle.catalogue.specs.Calls.{allWithin, allContaining, allAlmost, writeSheet, readSheet, salvageSheet, planOf, emptying, inserting, finding}
+use Rattle.catalogue.specs.Calls.{countKits, turnWithin, turnContaining, deleting, reading, salvaging}
 use Rattle.demands.specs.Model.{more}
 use Rattle.demands.specs.Demand1.{told, ToldExactly}
 use Rattle.demands.proofs.Model.{tag-order}
@@ -152,6 +152,10 @@ module _ {T : Tables} {m : Contents} (b : Brought T m) (all : AllListed T) (slot
   unfolding answer planOf reading told
   read-told s = rw (hs, hr) (decide-behind (lengths T) _ 0 _ sized-lent)
 
+  salvage-told : (s : List ℕ) → answer (planOf (salvageSheet s) T) ≡ told slots room m (salvageSheet s)
+  unfolding answer planOf salvaging told
+  salvage-told s = rw (hs, hr) (decide-behind (lengths T) _ 0 _ sized-lent)
+
   pub call-told : (c : Call) → answer (planOf c T) ≡ told slots room m c
   unfolding planOf told answer
   call-told emptyBoth = empty-told
@@ -171,6 +175,7 @@ module _ {T : Tables} {m : Contents} (b : Brought T m) (all : AllListed T) (slot
   call-told (turnContaining l k) = page-answer b isContaining l k
   call-told (writeSheet o) = write-answer b o
   call-told (readSheet s) = read-told s
+  call-told (salvageSheet s) = salvage-told s
 
 pub told-exactly : ToldExactly
 told-exactly a c h = let z = sizes a h in call-told (brought a h) (never-empty a h) (a .slots) (a .room) (z .slots) (z .room) c

@@ -14,12 +14,13 @@ use Rattle.ground.specs.Calls.{Case, Reply, refused, isRefused, valueOf, decide
 use Rattle.ground.proofs.Laws.{by-cond}
 use Rattle.ground.proofs.Calls.{whole-passes, done-passes}
 use Rattle.register.specs.Number.{goodNumber}
-use Rattle.register.specs.Register.{partsOf, placeFrom, placeIn}
+use Rattle.register.specs.Register.{partsOf, placeFrom, placeIn, slotCount}
 use Rattle.register.specs.Calls.{lentRegister, numberRefusals, registering, lookingUp, showing}
 use Rattle.register.specs.Inner.{Ready}
 use Rattle.register.proofs.Slots.{number-short}
 use Rattle.kits.specs.Kits.{mostUnits, mostPlace, listOf, units, lineValue, lineFaults, linesFaults, listFaults}
 use Rattle.kits.specs.Inner.{GoodRow}
+use Rattle.nodes.specs.Nodes.{size}
 use Rattle.nodes.specs.Held.{Kit, held, listed, someUnit, tagIn, tagsOf, firstTag, beginnings, addNew, allBeginnings}
 use Rattle.nodes.proofs.Lists.{zero-or}
 use Rattle.nodes.proofs.Sorted.{Every, none, also, every-append, keep-mem, keep-short, allb-mem}
@@ -36,27 +37,28 @@ use Rattle.pages.specs.Pages.{rowShown, comesAfter, following, turnPage}
 use Rattle.pages.specs.declared.Bookmark.{Bookmark}
 use Rattle.sheet.specs.Bytes.{inBytes, two, Bytes}
 use Rattle.sheet.specs.Sheet.{Contents, contentsOf, placeBytes, lineWords, numberItem, numberItems, recordItem, recordItems, encodeAs, encode}
-use Rattle.sheet.specs.Sheet.{nodesNeeded}
+use Rattle.sheet.specs.Sheet.{nodesNeeded, withoutEmpty}
 use Rattle.sheet.specs.Inner.{mostItem, mostRecord, goodKit}
-use Rattle.sheet.specs.Reading.{decode, said}
-use Rattle.sheet.specs.Calls.{sheetRefusals, roomRefusals}
+use Rattle.sheet.specs.Reading.{decode, said, salvage, rescued}
+use Rattle.sheet.specs.Calls.{sheetRefusals, roomRefusals, salvageRefusals}
 use Rattle.sheet.proofs.Fits.{Fits, fitting-fits}
 use Rattle.sheet.proofs.Lines.{record-size, lines-few}
 use Rattle.sheet.proofs.Widths.{lines-most, version-width}
 use Rattle.sheet_write.proofs.Records.{number-size}
 use Rattle.sheet_read.proofs.Listed.{kit-fits}
 use Rattle.sheet_read.proofs.Reading.{said-again}
+use Rattle.sheet_read.proofs.Rescued.{kept-fits}
 use Rattle.sheet_read.proofs.RoundTrip.{SmallTags, words-small, catalogue-fits}
 use Rattle.tables.specs.Inner.{SoundTables}
 use Rattle.tables.proofs.Lent.{both-passed, lent-passed, few-parts}
 use Rattle.ground.specs.Tables.{Tables, tables}
 use Rattle.tables.specs.Lent.{partCount, lengths, lentBoth, lentList}
 use Rattle.catalogue.specs.Calls.{emptyBoth, registerPart, lookUp, showAt, insertKit, findKit, deleteKit, anyWithin, anyContaining}
-use Rattle.catalogue.specs.Calls.{allWithin, allContaining, allAlmost, writeSheet, readSheet, planOf, emptying, inserting, finding}
+use Rattle.catalogue.specs.Calls.{allWithin, allContaining, allAlmost, writeSheet, readSheet, salvageSheet, planOf, emptying, inserting, finding}
 use Rattle.catalogue.specs.Calls.{countKits, turnWithin, turnContaining, deleting, counting, anyKit, allKits, almostKits, turning, writing, reading}
-use Rattle.catalogue.specs.Calls.{Question}
+use Rattle.catalogue.specs.Calls.{Question, salvaging}
 use Rattle.demands.specs.Pins.{ValuesFit}
-use Rattle.demands.proofs.Offsets.{fault-near}
+use Rattle.demands.proofs.Offsets.{fault-near, salvage-fault-near}
 
 abbrev limit : ℕ
 limit = 4294967296
@@ -357,6 +359,13 @@ module _ (c : Contents) (F : Fits c) where
   nodes-small : nodesNeeded c < limit
   nodes-small = omega (arith, all-long 64 (c .kits) (λ k m. row-short k m .short), F .few-kits)
 
+  -- 12 for what is read or kept, or else how many of its kits have a unit
+  room-small : (slots nodes : ℕ) → valueOf (decide (roomRefusals c slots nodes) (length (withoutEmpty c .kits))) < limit
+  unfolding roomRefusals
+  room-small slots nodes =
+      small-step _ _ _ (λ _. omega (arith, F .few-parts)) (λ _.
+      small-step _ _ _ (λ _. nodes-small) (λ _. end-small _ (omega (arith, keep-short someUnit (c .kits), F .few-kits))))
+
 pub writing-small : (R N : List ℕ) (words : (i : ℕ) → getD N i 0 < twoLimit) (o : List ℕ) → valueOf (answer (writing (tables R N) o)) < limit
 unfolding writing
 writing-small R N words o =
@@ -364,30 +373,36 @@ writing-small R N words o =
     (λ e. sheet-small (contentsOf R N) (fits-here R N words (both-passed R N e)))
 
 pub reading-small : (s : List ℕ) (T : Tables) → Bytes s → valueOf (answer (reading s T)) < limit
-unfolding answer reading sheetRefusals roomRefusals
+unfolding answer reading sheetRefusals
 reading-small s T h = small-front (lengths T) _ _ (lengths-fit T) (λ e.
     small-step _ _ _ (λ _. omega (arith, fault-near s h)) (λ f.
     let c = said (decode s) in
-    let F : Fits c = fitting-fits c (said-again s h f .1) in
-    small-step _ _ _ (λ _. omega (arith, F .few-parts)) (λ _.
-    small-step _ _ _ (λ _. nodes-small c F) (λ _. end-small _ (omega (arith, keep-short someUnit (c .kits), F .few-kits))))))
+    room-small c (fitting-fits c (said-again s h f .1)) (slotCount (T .register)) (size (T .nodes))))
+
+pub salvaging-small : (s : List ℕ) (T : Tables) → Bytes s → valueOf (answer (salvaging s T)) < limit
+unfolding answer salvaging salvageRefusals
+salvaging-small s T h = small-front (lengths T) _ _ (lengths-fit T) (λ e.
+    small-step _ _ _ (λ _. omega (arith, salvage-fault-near s h)) (λ f.
+    let c = rescued (salvage s) .kept in
+    room-small c (fitting-fits c (kept-fits s h f)) (slotCount (T .register)) (size (T .nodes))))
 
 pub values-fit : ValuesFit
 unfolding planOf answer
-values-fit emptyBoth T w b = emptying-small (T .register) (T .nodes) w
-values-fit (registerPart n) T w b = registering-small n (T .register)
-values-fit (lookUp n) T w b = looking-small n (T .register)
-values-fit (showAt p) T w b = showing-small p (T .register)
-values-fit (insertKit l t) T w b = inserting-small (T .register) (T .nodes) w l t
-values-fit (findKit l) T w b = finding-small (T .register) (T .nodes) w l
-values-fit (deleteKit l) T w b = deleting-small (T .register) (T .nodes) w l
-values-fit (countKits l) T w b = counting-small (T .register) (T .nodes) w l
-values-fit (anyWithin l) T w b = any-small (T .register) (T .nodes) w isWithin l
-values-fit (anyContaining l) T w b = any-small (T .register) (T .nodes) w isContaining l
-values-fit (allWithin l o) T w b = all-small (T .register) (T .nodes) w isWithin l o
-values-fit (allContaining l o) T w b = all-small (T .register) (T .nodes) w isContaining l o
-values-fit (allAlmost d l o) T w b = almost-small (T .register) (T .nodes) w d l o
-values-fit (turnWithin l k) T w b = turning-small (T .register) (T .nodes) w isWithin l k
-values-fit (turnContaining l k) T w b = turning-small (T .register) (T .nodes) w isContaining l k
-values-fit (writeSheet o) T w b = writing-small (T .register) (T .nodes) w o
-values-fit (readSheet s) T w b = reading-small s T (b s refl)
+values-fit emptyBoth T w b c = emptying-small (T .register) (T .nodes) w
+values-fit (registerPart n) T w b c = registering-small n (T .register)
+values-fit (lookUp n) T w b c = looking-small n (T .register)
+values-fit (showAt p) T w b c = showing-small p (T .register)
+values-fit (insertKit l t) T w b c = inserting-small (T .register) (T .nodes) w l t
+values-fit (findKit l) T w b c = finding-small (T .register) (T .nodes) w l
+values-fit (deleteKit l) T w b c = deleting-small (T .register) (T .nodes) w l
+values-fit (countKits l) T w b c = counting-small (T .register) (T .nodes) w l
+values-fit (anyWithin l) T w b c = any-small (T .register) (T .nodes) w isWithin l
+values-fit (anyContaining l) T w b c = any-small (T .register) (T .nodes) w isContaining l
+values-fit (allWithin l o) T w b c = all-small (T .register) (T .nodes) w isWithin l o
+values-fit (allContaining l o) T w b c = all-small (T .register) (T .nodes) w isContaining l o
+values-fit (allAlmost d l o) T w b c = almost-small (T .register) (T .nodes) w d l o
+values-fit (turnWithin l k) T w b c = turning-small (T .register) (T .nodes) w isWithin l k
+values-fit (turnContaining l k) T w b c = turning-small (T .register) (T .nodes) w isContaining l k
+values-fit (writeSheet o) T w b c = writing-small (T .register) (T .nodes) w o
+values-fit (readSheet s) T w b c = reading-small s T (b s refl)
+values-fit (salvageSheet s) T w b c = salvaging-small s T (c s refl)

@@ -22,12 +22,12 @@ use Rattle.nodes.specs.Held.{countBeginning, firstTag, tagIn, tagsOf}
 use Rattle.questions.specs.Questions.{isContaining, isWithin}
 use Rattle.pages.specs.declared.Bookmark.{Bookmark}
 use Rattle.sheet.specs.Sheet.{Contents, encode, nodesNeeded, withoutEmpty}
-use Rattle.sheet.specs.Reading.{decode, said}
-use Rattle.sheet.specs.Calls.{sheetRefusals}
+use Rattle.sheet.specs.Reading.{decode, said, salvage, rescued}
+use Rattle.sheet.specs.Calls.{sheetRefusals, salvageRefusals}
 use Rattle.tables.specs.Lent.{partCount}
 use Rattle.catalogue.specs.Calls.{Call, Question, allAlmost, allContaining, allKits, allWithin, almostKits, anyContaining, anyWithin}
 use Rattle.catalogue.specs.Calls.{countKits, deleteKit, emptyBoth, findKit, insertKit, lookUp, planOf, readSheet, registerPart, showAt, writeSheet}
-use Rattle.catalogue.specs.Calls.{turnContaining, turnWithin, turning, writing}
+use Rattle.catalogue.specs.Calls.{salvageSheet, turnContaining, turnWithin, turning, writing}
 use Rattle.demands.specs.Model.{Allowed, Catalogue, almostOf, answering, entered, listedIn, listingOf, more, pageOf, tablesOf}
 
 ------------------------------------------------------------------------
@@ -69,6 +69,7 @@ told slots room m (turnWithin l b) = answer (pageOf isWithin l m b)
 told slots room m (turnContaining l b) = answer (pageOf isContaining l m b)
 told slots room m (writeSheet o) = answer (setDown [] (encode (listedIn m)) o)
 told slots room m (readSheet s) = decide (sheetRefusals s slots room) (length (withoutEmpty (said (decode s)) .kits))
+told slots room m (salvageSheet s) = decide (salvageRefusals s slots room) (length (withoutEmpty (rescued (salvage s) .kept) .kits))
 
 -- [14.2] Proof: Told, `told-exactly`
 abbrev pub ToldExactly : Type 0
@@ -78,7 +79,7 @@ ToldExactly = (a : Catalogue) (c : Call) → Allowed a → answer (planOf c (tab
 -- Any tables at all, damaged ones too
 
 -- what a call asks of the tables: "Register calls are lent only the register; all others both tables", and "Emptying and reading give 1 but
--- never 2"
+-- never 2", salvage "1 as in reading"
 pub data TablesAsked : Type 0 where
   theRegister theLengths bothTables : TablesAsked
 
@@ -100,6 +101,7 @@ asksOf (turnWithin l b) = bothTables
 asksOf (turnContaining l b) = bothTables
 asksOf (writeSheet o) = bothTables
 asksOf (readSheet s) = theLengths
+asksOf (salvageSheet s) = theLengths
 
 -- "a table has a wrong length"
 abbrev pub LengthWrong : TablesAsked → Tables → Type 0
@@ -142,6 +144,7 @@ numbersGiven (turnWithin l b) = 1 ∷ 2 ∷ 4 ∷ 5 ∷ 6 ∷ 15 ∷ []
 numbersGiven (turnContaining l b) = 1 ∷ 2 ∷ 4 ∷ 5 ∷ 6 ∷ 15 ∷ []
 numbersGiven (writeSheet o) = 1 ∷ 2 ∷ 12 ∷ []
 numbersGiven (readSheet s) = 1 ∷ 13 ∷ 12 ∷ []
+numbersGiven (salvageSheet s) = 1 ∷ 13 ∷ 12 ∷ []
 
 -- [14.23] of any tables, a call is done or refused with one of its numbers. Proof: LaidDown, `numbers-laid-down`
 abbrev pub NumbersLaidDown : Type 0

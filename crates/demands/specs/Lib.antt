@@ -13,3 +13,4 @@ pub mod Pins
 pub mod Before
 pub mod Versions
 pub mod Torn
+pub mod Rescue

@@ -19,9 +19,10 @@ use Rattle.pages.specs.Pages.{comesAfter, goodBookmark, movedOn, rowShown}
 use Rattle.pages.specs.declared.Bookmark.{Bookmark}
 use Rattle.sheet.specs.Bytes.{Bytes}
 use Rattle.sheet.specs.Sheet.{Contents, withoutEmpty}
-use Rattle.sheet.specs.Reading.{decode, said}
+use Rattle.sheet.specs.Reading.{decode, said, salvage, rescued}
 use Rattle.catalogue.specs.Calls.{Call, Question, allAlmost, allContaining, allWithin, anyContaining, anyWithin, contents, countKits, deleteKit}
-use Rattle.catalogue.specs.Calls.{emptyBoth, findKit, insertKit, lookUp, planOf, readSheet, registerPart, showAt, turnContaining, turnWithin, writeSheet}
+use Rattle.catalogue.specs.Calls.{emptyBoth, findKit, insertKit, lookUp, planOf, readSheet, registerPart, salvageSheet, showAt, turnContaining, turnWithin}
+use Rattle.catalogue.specs.Calls.{writeSheet}
 
 abbrev pub has : List (List ℕ) → List Kit → Contents
 has ps ks = record { parts = ps; kits = ks }
@@ -48,6 +49,8 @@ accepted (turnWithin l b) m = m
 accepted (turnContaining l b) m = m
 accepted (writeSheet o) m = m
 accepted (readSheet s) m = withoutEmpty (said (decode s))
+-- request 12: "Demand 3 takes what is kept as read, the torn sheet not as accepted"
+accepted (salvageSheet s) m = withoutEmpty (rescued (salvage s) .kept)
 
 unfoldable pub step : Call → Reply → Contents → Contents
 step c (done v) m = accepted c m
@@ -66,10 +69,11 @@ unfoldable pub log : List Call → Tables → List (Call × Reply)
 log [] T = []
 log (c ∷ cs) T = (c, answer (planOf c T)) ∷ log cs (memory (planOf c T) T)
 
--- what the types say: of a call, that a tag is a 16-bit number and a sheet is bytes; of lent tables, that the nodes are 16-bit words
+-- what the types say: of a call, that a tag is a 16-bit number and a sheet, also a torn one, is bytes; of lent tables, that the nodes are 16-bit words
 pub record TypesSay (c : Call) : Type 0 where
   pub tag : (l : List ℕ) (t : ℕ) → insertKit l t ≡ c → t < twoLimit
   pub sheet : (s : List ℕ) → readSheet s ≡ c → Bytes s
+  pub torn-sheet : (s : List ℕ) → salvageSheet s ≡ c → Bytes s
 
 abbrev pub Words : Tables → Type 0
 Words T = (i : ℕ) → getD (T .nodes) i 0 < twoLimit
@@ -88,6 +92,7 @@ pub record Allowed (a : Catalogue) : Type 0 where
   pub few-nodes : a .room ≤ mostNodes
   pub tags : (l : List ℕ) (t : ℕ) → List·Memᴰ (insertKit l t) (a .calls) → t < twoLimit
   pub sheets : (s : List ℕ) → List·Memᴰ (readSheet s) (a .calls) → Bytes s
+  pub torn-sheets : (s : List ℕ) → List·Memᴰ (salvageSheet s) (a .calls) → Bytes s
 
 unfoldable pub begun : Catalogue → Tables
 begun a = tables (replicate (a .slots * slotBytes) 0) (replicate (a .room * wordsPerNode) 0)

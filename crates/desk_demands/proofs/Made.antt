@@ -17,7 +17,7 @@ use Rattle.nodes.proofs.Sorted.{Every, none as no-more, also, every-mem, every-
 use Rattle.sheet.specs.Bytes.{Bytes}
 use Rattle.questions.specs.Questions.{isWithin, isContaining}
 use Rattle.catalogue.specs.Calls.{Call, emptyBoth, registerPart, lookUp, showAt, insertKit, findKit, deleteKit, anyWithin, anyContaining}
-use Rattle.catalogue.specs.Calls.{countKits, allWithin, allContaining, allAlmost, turnWithin, turnContaining, writeSheet, readSheet, planOf}
+use Rattle.catalogue.specs.Calls.{countKits, allWithin, allContaining, allAlmost, turnWithin, turnContaining, writeSheet, readSheet, salvageSheet, planOf}
 use Rattle.catalogue.specs.Calls.{inserting, finding, deleting, anyKit}
 use Rattle.demands.specs.Model.{run, Allowed, begun, tablesOf}
 use Rattle.demands.specs.Demand3.{Writes}
@@ -185,6 +185,7 @@ Fit (turnWithin l b) = Unit
 Fit (turnContaining l b) = Unit
 Fit (writeSheet o) = Unit
 Fit (readSheet s) = Bytes s
+Fit (salvageSheet s) = Bytes s
 
 lookups-fit : (R : List ℕ) (fs : List (List ℕ)) → Every Fit (lookups R fs)
 unfolding lookups leaves
@@ -239,6 +240,7 @@ desk-allowed input =
       few-nodes = omega arith;
       tags = λ l t m. every-mem f m;
       sheets = λ s m. every-mem f m;
+      torn-sheets = λ s m. every-mem f m;
     }
 
 pub desk-is-catalogue : DeskIsCatalogue

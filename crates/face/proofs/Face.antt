@@ -2,7 +2,7 @@
 use mathlib.Core.Path.{_≡_, refl, sym, ap, subst, _∙_}
 use mathlib.Core.Bool.{Bool, true, false, cond, not}
 use mathlib.Core.List.{List}
-use Prim.Native.Nat.{ℕ, _+_, _-_, _*_, _<_, _≤_}
+use Prim.Native.Nat.{ℕ, _+_, _-_, _*_, _^_, _<_}
 use native.Mathlib.Omega.{arith}
 use lib.ListN.{length, take, drop, getD, length-drop}
 use lib.Seq.{length-take-le}
@@ -16,7 +16,17 @@ use Rattle.register.specs.Calls.{showing, stretchFrom, stretchSize}
 use Rattle.register.proofs.Sound.{ready-short}
 use Rattle.register.proofs.Answers.{shows}
 use Rattle.pages.specs.declared.Bookmark.{Bookmark}
-use Rattle.face.specs.Face.{Handed, Crosses, LentMark, lentMark, markOf, setTo, overLent}
+use Rattle.answers.specs.Answers.{reply}
+use Rattle.ground.specs.Tables.{tables}
+use Rattle.sheet.specs.Bytes.{Bytes}
+use Rattle.sheet.specs.Reading.{salvage, rescued}
+use Rattle.sheet.specs.Calls.{reportOf}
+use Rattle.sheet.specs.declared.Report.{Report}
+use Rattle.sheet_read.specs.declared.Salvaged.{Salvaged}
+use Rattle.catalogue.specs.Calls.{Rescues}
+use Rattle.demands.proofs.Offsets.{stopped-near}
+use Rattle.demands.proofs.Values.{salvaging-small}
+use Rattle.face.specs.Face.{Handed, Crosses, LentMark, lentMark, markOf, setTo, overLent, SmallReport, RescueCrosses}
 
 -- what is handed over is what the plan answers
 pub handed-answer : {r s : Reply} {n v : ℕ} → Handed r n v → r ≡ s → Handed s n v
@@ -83,3 +93,24 @@ size-by p R (refused n v) e = refl
 pub stretch-long : (p : ℕ) (R r : List ℕ) → r ≡ take (stretchSize p R) (drop (stretchFrom p R) R) → length r ≡ stretchSize p R
 unfolding stretchFrom stretchSize
 stretch-long p R r h = ap length h ∙ size-by p R (answer (showing p R)) refl
+
+-- Salvage: its promise and its report taken apart, and why each number of the report has room in 32 bits
+pub rescue-crossed : {s R N R′ N′ : List ℕ} {x : Salvaged} {n : ℕ} {p : Report} → Rescues s R N x R′ N′ → n ≡ numberOf (reply (x .answer)) →
+    p ≡ x .report → RescueCrosses s (tables R N) n p (tables R′ N′)
+rescue-crossed {s = s} h number report =
+    let e = h .promised .answers in
+    record {
+      number-is = number ∙ ap numberOf e;
+      report-is = report ∙ h .reported ∙ ap (λ (a : Reply). reportOf a (rescued (salvage s))) e;
+      lent = h .promised .lent;
+    }
+
+report-small : (s : List ℕ) (a : Reply) → Bytes s → valueOf a < 2 ^ 32 → SmallReport (reportOf a (rescued (salvage s)))
+unfolding reportOf
+report-small s (done v) h l = record { kept = l; announced = omega (arith, stopped-near s h .0); third = omega (arith, stopped-near s h .1) }
+report-small s (refused n v) h l = record { kept = omega arith; announced = omega arith; third = l }
+
+pub rescue-small : {s R N R′ N′ : List ℕ} {x : Salvaged} → Bytes s → Rescues s R N x R′ N′ → SmallReport (x .report)
+rescue-small {s = s} {R = R} {N = N} {x = x} b h =
+    subst SmallReport (sym (h .reported))
+    (report-small s (reply (x .answer)) b (reply-small _ (h .promised .answers) (salvaging-small s (tables R N) b)))

@@ -3,10 +3,15 @@
 use mathlib.Core.Path.{_≡_}
 use mathlib.Core.Bool.{cond, not}
 use mathlib.Core.List.{List}
-use Prim.Native.Nat.{ℕ}
+use Prim.Native.Nat.{ℕ, _<_, _^_}
 use Rattle.ground.specs.Lists.{isZero}
 use Rattle.ground.specs.Calls.{Plan, plan, Reply, numberOf, valueOf, answer, memory}
+use Rattle.ground.specs.Tables.{Tables}
 use Rattle.pages.specs.declared.Bookmark.{Bookmark}
+use Rattle.sheet.specs.Reading.{salvage, rescued}
+use Rattle.sheet.specs.Calls.{reportOf}
+use Rattle.sheet.specs.declared.Report.{Report}
+use Rattle.catalogue.specs.Calls.{salvaging}
 
 -- [7.9] "Each answer is a number (0 for done) and a value"
 pub record Handed (r : Reply) (number value : ℕ) : Type 0 where
@@ -38,3 +43,19 @@ setTo p b = lentMark (cond (isZero (p .begun)) (cond (b .begun) 1 0) (p .begun))
 -- a call that may write a bookmark, where it is lent so
 abbrev pub overLent : (Bookmark → Plan Bookmark) → LentMark → Plan LentMark
 overLent call p = let q = call (markOf p) in plan (q .cases) (q .value) (setTo p (q .after))
+
+-- A report crosses in three numbers of 32 bits
+abbrev pub reportOut : ℕ → ℕ → ℕ → Report
+reportOut kept announced third = record { kept = kept; announced = announced; third = third }
+
+pub record SmallReport (p : Report) : Type 0 where
+  pub kept : p .kept < 2 ^ 32
+  pub announced : p .announced < 2 ^ 32
+  pub third : p .third < 2 ^ 32
+
+-- [7.9] salvage of the sheet s: the number of its answer, "the kits kept, the kits announced, and the offset", or what "a refused call reports", and
+-- every word of both tables
+pub record RescueCrosses (s : List ℕ) (old : Tables) (number : ℕ) (report : Report) (new : Tables) : Type 0 where
+  pub number-is : number ≡ numberOf (answer (salvaging s old))
+  pub report-is : report ≡ reportOf (answer (salvaging s old)) (rescued (salvage s))
+  pub lent : new ≡ memory (salvaging s old) old

@@ -5,14 +5,14 @@ ghost use mathlib.Core.Path.{_≡_};
 ghost use mathlib.Core.Bool.{cond};
 ghost use Prim.Native.Nat.{_<_, _^_};
 ghost use Rattle.ground.specs.Lists.{isZero};
-ghost use Rattle.ground.specs.Calls.{answer, valueOf, both};
+ghost use Rattle.ground.specs.Calls.{answer, numberOf, valueOf, both};
 ghost use Rattle.ground.specs.Stretch.{Stretch};
 ghost use Rattle.ground.specs.Tables.{tables};
 ghost use Rattle.answers.specs.Answers.{reply};
 ghost use Rattle.register.specs.Calls.{registering, lookingUp, showing, stretchFrom, stretchSize};
 ghost use Rattle.questions.specs.Questions.{isWithin, isContaining};
 ghost use Rattle.catalogue.specs.Calls.{emptying, inserting, finding, deleting, counting, anyKit, allKits, almostKits, turning, writing, reading};
-ghost use Rattle.face.specs.Face.{Handed, Crosses, lentMark, markOf, setTo, overLent};
+ghost use Rattle.face.specs.Face.{Handed, Crosses, lentMark, markOf, setTo, overLent, SmallReport, reportOut, RescueCrosses};
 use answers::Answer;
 use answers::refused;
 use answers::reply_of;
@@ -22,6 +22,7 @@ use kits::Row;
 use pages::Bookmark;
 use pages::Page;
 use register::SLOT_BYTES;
+use sheet_read::Salvaged;
 
 // An answer taken apart: "Each answer is a number (0 for done) and a value below 2^32".
 fn hand_over(a: Answer, value: &mut u32) -> u8
@@ -320,4 +321,40 @@ pub extern "C" fn padrisk_read_sheet(
         r (now (value .exit)) (tables (now (reg .exit)) (now (nodes .exit))) ⌝ }
 {
     hand_over(catalogue::read_sheet(reg, nodes, sheet), value)
+}
+
+// A salvage taken apart: the number of its answer, and its report in three lent numbers.
+fn hand_report(told: Salvaged, announced: &mut u32, third: &mut u32, value: &mut u32) -> u8
+    requires { ⌜ SmallReport (told .report) ⌝ }
+    ensures { λ r. ⌜ r ≡ numberOf (reply (told .answer)) ⌝ ∗
+        ⌜ reportOut (now (value .exit)) (now (announced .exit)) (now (third .exit)) ≡ told .report ⌝ }
+{
+    let report = told.report;
+    *value = report.kept as u32;
+    *announced = report.announced as u32;
+    *third = report.third as u32;
+    let answer = told.answer;
+    reply_of(answer).number
+}
+
+// Salvages a torn sheet into both tables: the kits kept. The kits announced go out through `announced`, and through `third` the offset of the first
+// fault or else the sheet's length; refused, 0 and 0, and the refusal's value through `third`.
+#[no_mangle]
+pub extern "C" fn padrisk_salvage(
+    reg: &mut [u8],
+    nodes: &mut [u16],
+    sheet: &[u8],
+    announced: &mut u32,
+    third: &mut u32,
+    value: &mut u32,
+) -> u8
+    ensures { λ r. ⌜ RescueCrosses (now (sheet .entry)) (tables (now (reg .entry)) (now (nodes .entry))) r
+        (reportOut (now (value .exit)) (now (announced .exit)) (now (third .exit))) (tables (now (reg .exit)) (now (nodes .exit))) ⌝ }
+{
+    hand_report(
+        catalogue::salvage(reg, nodes, sheet),
+        announced,
+        third,
+        value,
+    )
 }

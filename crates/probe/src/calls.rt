@@ -55,6 +55,19 @@ fn turns(reg: &[u8], nodes: &[u16], list: &[u16], mark: &mut [u16], containing: 
     tells(answer)
 }
 
+// Salvage has three numbers: the kits kept, the kits announced, and the offset; refused, 0, 0 and the refusal's value.
+fn rescues(reg: &mut [u8], nodes: &mut [u16], s: &[u8]) -> Called {
+    let rescued = catalogue::salvage(reg, nodes, s);
+    let report = rescued.report;
+    let answer = rescued.answer;
+    Called::Answers(Told {
+        number: reply_of(answer).number,
+        value: report.kept,
+        second: report.announced,
+        third: report.third,
+    })
+}
+
 pub fn call(
     ask: Request,
     reg: &mut [u8],
@@ -85,6 +98,7 @@ pub fn call(
         b'a' => tells(catalogue::all_almost(reg, nodes, list, ask.a, places, seconds)),
         b's' => tells(catalogue::write_sheet(reg, nodes, output)),
         b'r' => tells(catalogue::read_sheet(reg, nodes, input)),
+        b'S' => rescues(reg, nodes, input),
         b'g' => turns(reg, nodes, list, mark, false),
         b'G' => turns(reg, nodes, list, mark, true),
         _ => Called::Broken,

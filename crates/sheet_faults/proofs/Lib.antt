@@ -3,4 +3,5 @@ pub mod Cuts
 pub mod Fronts
 pub mod Runs
 pub mod Faults
+pub mod Torn
 pub mod Rules

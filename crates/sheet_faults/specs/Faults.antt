@@ -13,7 +13,7 @@ use Rattle.nodes.specs.Held.{Kit}
 use Rattle.sheet.specs.Bytes.{two, twoBytes, Bytes}
 use Rattle.sheet.specs.Sheet.{Contents, mark, markBytes, version, placeBytes, numberItem, recordItem, encode}
 use Rattle.sheet.specs.Reading.{item, fault, one, bytes, isVersion, goodPartCount, numberSize, newNumber, recordSize, newKit, Run}
-use Rattle.sheet.specs.Reading.{Front, front, runOf, decode, isFault, said}
+use Rattle.sheet.specs.Reading.{Front, front, runOf, decode, isFault, said, salvage, rescued}
 use Rattle.sheet.specs.Calls.{sheetRefusals}
 
 -- "Items are mark, version, part count, each number with its length": these numbers, of a sheet that announces n
@@ -118,6 +118,31 @@ KeptAtCut =
     let o = length (concat (frontItems (c .parts) (length (c .kits)))) in
     let bs = take n (concat (kitItems (widthOf c) (c .kits))) in
     (front (take (o + n) s) 0 ≡ item f bs o) × (runOf f bs o ≡ runToCut (widthOf c) (c .kits) n bs o)
+
+-- Request 12: "It keeps the longest faultless run of kit records from the first on, never more than the kit count". Of an accepted sheet that is cut
+-- anywhere up to its kit count, salvage finds the item at fault that is cut; of one that is cut so many bytes behind it, the kits are kept whose
+-- records are whole, and the run stops where the cut one starts. Proof: proofs/Torn, `salvaged-at-cut`
+abbrev pub SalvagedAtCut : Type 0
+SalvagedAtCut =
+    (s : List ℕ) (n : ℕ) → Bytes s → isFault (decode s) ≡ false →
+    let c = said (decode s) in
+    let o = length (concat (frontItems (c .parts) (length (c .kits)))) in
+    (n < o → salvage (take n s) ≡ fault (startOfCut (itemsOf c) n))
+    × (isFault (salvage (take (o + n) s)) ≡ false)
+    × (rescued (salvage (take (o + n) s)) ≡ record {
+      kept = record { parts = c .parts; kits = take (wholeItems (kitItems (widthOf c) (c .kits)) n) (c .kits) };
+      announced = length (c .kits);
+      stopped = startOfCut (itemsOf c) (o + n);
+    })
+
+-- Of any sheet no more kits are kept than announced, and where there are fewer, the record behind them is at fault: a longer run is not faultless.
+-- Proof: proofs/Torn, `longest-run`
+abbrev pub LongestRun : Type 0
+LongestRun =
+    (s : List ℕ) → Bytes s → isFault (salvage s) ≡ false →
+    let x = rescued (salvage s) in
+    (length (x .kept .kits) ≤ x .announced)
+    × (length (x .kept .kits) < x .announced → recordAtFault (x .kept) (drop (x .stopped) s) ≡ true)
 
 -- The same as answers of reading, whatever room the tables have. Proofs: proofs/Faults, `behind-refused`, `cut-refused`
 abbrev pub BehindRefused : Type 0

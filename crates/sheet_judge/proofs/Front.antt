@@ -15,9 +15,9 @@ use Rattle.sheet.specs.Bytes.{fromBytes, twoBytes}
 use Rattle.sheet.specs.Sheet.{mark, version, markBytes}
 use Rattle.sheet.specs.Inner.{headBytes, versionAt, partsAt}
 use Rattle.sheet.specs.Reading.{Item, item, fault, Reading, onward, one, bytes, anyTwo, versions, isVersion, goodPartCount, numbers}
-use Rattle.sheet.specs.Reading.{Front, front, runOf, whole, decode}
+use Rattle.sheet.specs.Reading.{Front, front, Salvage, salvage}
 use Rattle.sheet.proofs.Written.{one-bad}
-use Rattle.sheet_judge.specs.Inner.{behindNumbers, Headed, placeOf}
+use Rattle.sheet_judge.specs.Inner.{behindFront, behindNumbers, Headed, placeOf}
 
 -- One item
 module _ (size : List ℕ → ℕ) (good : List ℕ → Bool) (bs : List ℕ) (o : ℕ) where
@@ -86,18 +86,17 @@ unfolding onward
 onward-item a bs o f = refl
 
 -- What follows the numbers
+abbrev counted : List (List ℕ) → List ℕ → Front
+counted ns k = record { parts = ns; announced = fromBytes k }
+
 behind-all : (m : Item (List (List ℕ))) →
-    onward (onward m (λ ns bs o. onward (one (bytes twoBytes) anyTwo bs o)
-    (λ k rest p. item (record { parts = ns; announced = fromBytes k }) rest p)))
-    (λ (f : Front) bs o. whole (f .parts) (runOf f bs o)) ≡ onward m behindNumbers
-unfolding onward behindNumbers runOf
+    onward (onward m (λ ns bs o. onward (one (bytes twoBytes) anyTwo bs o) (λ k rest p. item (counted ns k) rest p))) behindFront ≡ onward m behindNumbers
+unfolding onward behindNumbers
 behind-all (fault o) = refl
 behind-all (item ns bs o) = go (one (bytes twoBytes) anyTwo bs o)
   where
     go : (x : Item (List ℕ)) →
-        onward (onward x (λ k rest p. item (record { parts = ns; announced = fromBytes k }) rest p))
-        (λ (f : Front) bs o. whole (f .parts) (runOf f bs o)) ≡ onward x
-        (λ k rest p. whole ns (runOf (record { parts = ns; announced = fromBytes k }) rest p))
+        onward {B = Salvage} (onward x (λ k rest p. item (counted ns k) rest p)) behindFront ≡ onward x (λ k. behindFront (counted ns k))
     go (item k rest p) = refl
     go (fault p) = refl
 
@@ -108,20 +107,20 @@ module _ (s : List ℕ) where
   unfolding bytes
   mark-item h e = one-ok (bytes markBytes) (eqList mark) s 0 h e
 
-  pub no-mark : length s < markBytes → decode s ≡ fault 0
-  unfolding decode front onward bytes
+  pub no-mark : length s < markBytes → salvage s ≡ fault 0
+  unfolding salvage front onward bytes
   no-mark h = let e = one-short (bytes markBytes) (eqList mark) s 0 h in rw e
 
-  pub bad-mark : eqList mark (take markBytes s) ≡ false → decode s ≡ fault 0
-  unfolding decode front onward bytes
+  pub bad-mark : eqList mark (take markBytes s) ≡ false → salvage s ≡ fault 0
+  unfolding salvage front onward bytes
   bad-mark f = let e = one-bad (bytes markBytes) (eqList mark) s 0 f in rw e
 
   module _ (h : markBytes ≤ length s) (m : eqList mark (take markBytes s) ≡ true) where
-    version-fault : one (bytes twoBytes) isVersion (drop versionAt s) versionAt ≡ fault versionAt → decode s ≡ fault versionAt
-    unfolding decode front onward
+    version-fault : one (bytes twoBytes) isVersion (drop versionAt s) versionAt ≡ fault versionAt → salvage s ≡ fault versionAt
+    unfolding salvage front onward
     version-fault e = let f = mark-item h m in rw (f, e)
 
-    pub no-version : length s < partsAt → decode s ≡ fault versionAt
+    pub no-version : length s < partsAt → salvage s ≡ fault versionAt
     no-version k = version-fault (two-short isVersion s versionAt h (omega arith))
 
     -- the version v, as it was read
@@ -130,39 +129,39 @@ module _ (s : List ℕ) where
       unfolding isVersion
       known e = rw (← read) e
 
-      pub bad-version : anyb (eqb v) versions ≡ false → decode s ≡ fault versionAt
+      pub bad-version : anyb (eqb v) versions ≡ false → salvage s ≡ fault versionAt
       bad-version f = version-fault (two-bad isVersion s versionAt (known f))
 
       module _ (k : partsAt ≤ length s) (g : anyb (eqb v) versions ≡ true) where
         version-item : one (bytes twoBytes) isVersion (drop versionAt s) versionAt ≡ item (take twoBytes (drop versionAt s)) (drop partsAt s) partsAt
         version-item = two-ok isVersion s versionAt k (known g)
 
-        count-fault : one (bytes twoBytes) (goodPartCount v) (drop partsAt s) partsAt ≡ fault partsAt → decode s ≡ fault partsAt
-        unfolding decode front onward
+        count-fault : one (bytes twoBytes) (goodPartCount v) (drop partsAt s) partsAt ≡ fault partsAt → salvage s ≡ fault partsAt
+        unfolding salvage front onward
         count-fault e =
             let f = mark-item h m in
             let i = version-item in
             rw (f, i, ← read, e)
 
-        pub no-count : length s < headBytes → decode s ≡ fault partsAt
+        pub no-count : length s < headBytes → salvage s ≡ fault partsAt
         no-count l = count-fault (two-short (goodPartCount v) s partsAt k (omega arith))
 
         -- the part count n, as it was read
         module _ (n : ℕ) (count : n ≡ fromBytes (take twoBytes (drop partsAt s))) where
-          counted : {x : Bool} → (leb n mostParts && eqb v (version n)) ≡ x → goodPartCount v (take twoBytes (drop partsAt s)) ≡ x
+          count-told : {x : Bool} → (leb n mostParts && eqb v (version n)) ≡ x → goodPartCount v (take twoBytes (drop partsAt s)) ≡ x
           unfolding goodPartCount every
-          counted e = rw (← count, and-true) e
+          count-told e = rw (← count, and-true) e
 
-          pub bad-count : (leb n mostParts && eqb v (version n)) ≡ false → decode s ≡ fault partsAt
-          bad-count f = count-fault (two-bad (goodPartCount v) s partsAt (counted f))
+          pub bad-count : (leb n mostParts && eqb v (version n)) ≡ false → salvage s ≡ fault partsAt
+          bad-count f = count-fault (two-bad (goodPartCount v) s partsAt (count-told f))
 
           module _ (l : headBytes ≤ length s) (b : (leb n mostParts && eqb v (version n)) ≡ true) where
             count-item : one (bytes twoBytes) (goodPartCount v) (drop partsAt s) partsAt
                 ≡ item (take twoBytes (drop partsAt s)) (drop headBytes s) headBytes
-            count-item = two-ok (goodPartCount v) s partsAt l (counted b)
+            count-item = two-ok (goodPartCount v) s partsAt l (count-told b)
 
-            numbers-next : decode s ≡ onward (numbers n [] (drop headBytes s) headBytes) behindNumbers
-            unfolding decode front
+            numbers-next : salvage s ≡ onward (numbers n [] (drop headBytes s) headBytes) behindNumbers
+            unfolding salvage front
             numbers-next =
                 let f = mark-item h m in
                 let i = version-item in

@@ -1,14 +1,14 @@
 -- The walk over the kit records: what is known behind k of them, and what the judge may answer.
-use mathlib.Core.Path.{_≡_, refl, ap, sym, _∙_}
+use mathlib.Core.Path.{_≡_, refl, ap, ap₂, sym, _∙_}
 use mathlib.Core.Bool.{Bool, true, false, _||_, not}
 use mathlib.Core.List.{List, [], _∷_, _++_}
 use Prim.Native.Nat.{ℕ, suc, _+_, _-_, _*_, _≤_, _<_}
 use native.Mathlib.Nat.{sub-zero}
 use native.Mathlib.Omega.{arith}
-use lib.ListN.{length, take, drop, getD, set, length-drop, length-append, length-set, drop-of-length-le}
+use lib.ListN.{length, take, drop, getD, set, length-drop, length-append, length-set}
 use lib.Dec.{eqb}
 use lib.Seq.{drop-drop, getD-set-same, getD-set-other}
-use borrow.Author.Tests.{eq-eqb, ne-eqb, eqb-true, eqb-false}
+use borrow.Author.Tests.{eq-eqb, eqb-true, eqb-false}
 use Rattle.ground.specs.Limits.{twoLimit}
 use Rattle.ground.specs.Lists.{anyb, isZero}
 use Rattle.kits.specs.Kits.{units, mostUnits, unitsIn, fixedRow}
@@ -17,26 +17,29 @@ use Rattle.kits.specs.declared.Row.{Row}
 use Rattle.kits.proofs.Rows.{row-back}
 use Rattle.nodes.specs.Held.{Kit, allBeginnings}
 use Rattle.sheet.specs.Bytes.{fromBytes, Bytes, twoBytes}
-use Rattle.sheet.specs.Sheet.{Contents, placeBytes}
+use Rattle.sheet.specs.Sheet.{placeBytes}
 use Rattle.sheet.specs.Inner.{rising, headBytes}
-use Rattle.sheet.specs.Reading.{item, fault, onward, one, anyTwo, numbers, decode, recordSize, kitIn, hasTag, newKit, Run, stop, also, unless, records, whole}
+use Rattle.sheet.specs.Reading.{item, fault, onward, one, anyTwo, numbers, recordSize, kitIn, hasTag, newKit, stop, also, unless, records, runOf, salvaged}
+use Rattle.sheet.specs.Reading.{salvage}
+use Rattle.sheet.specs.Reading as paper
 use Rattle.sheet.specs.declared.Sheet.{Sheet}
 use Rattle.sheet.proofs.Accepted.{records-back}
 use Rattle.sheet.proofs.Laws.{new-kits-rise}
 use Rattle.sheet.proofs.Written.{any-good}
 use Rattle.sheet.specs.Inner.{recordAt, listAt, WholeAt}
-use Rattle.sheet_judge.specs.Inner.{judgedOf, sheetOf, behindNumbers, Numbered, Tags, Latest, growth}
-use Rattle.sheet_judge.specs.declared.Judged.the-variants.{Fault, Good}
+use Rattle.sheet_judge.specs.Inner.{judgedOf, runTold, behindNumbers, Numbered, Tags, Latest, growth}
+use Rattle.sheet_judge.specs.declared.Judged.the-variants.{Fault, Runs}
+use Rattle.sheet_judge.specs.declared.Run.{Run}
 use Rattle.sheet_judge.proofs.Front.{one-ok, two-short, two-ok}
 use Rattle.sheet_judge.proofs.Growth.{growth-beginnings, lastRow, growth-last, last-row}
 use Rattle.sheet.proofs.Places.{size-at, tag-is, row-is}
 
 -- kits read before those of a run
-unfoldable pub prepend : List Kit → Run → Run
+unfoldable pub prepend : List Kit → paper.Run → paper.Run
 prepend [] r = r
 prepend (k ∷ ks) r = also k (prepend ks r)
 
-prepend-last : (ks : List Kit) (k : Kit) (r : Run) → prepend (ks ++ (k ∷ [])) r ≡ prepend ks (also k r)
+prepend-last : (ks : List Kit) (k : Kit) (r : paper.Run) → prepend (ks ++ (k ∷ [])) r ≡ prepend ks (also k r)
 unfolding prepend
 prepend-last [] k r = refl
 prepend-last (x ∷ ks) k r = ap (also x) (prepend-last ks k r)
@@ -94,7 +97,7 @@ none-last : lastRow [] [] ≡ []
 unfolding lastRow
 none-last = refl
 
-prepend-none : (r : Run) → prepend [] r ≡ r
+prepend-none : (r : paper.Run) → prepend [] r ≡ r
 unfolding prepend
 prepend-none r = refl
 
@@ -125,49 +128,35 @@ new-latest row k x seen e = (omega arith, e)
 
 module _ {w : ℕ} {s : List ℕ} {from parts n : ℕ} {marks : List ℕ} {prev : Row} {nodes at k : ℕ}
     (J : Judging w s from parts n marks prev nodes at k) where
-  -- a record at fault
-  pub judging-fault : k < n → one (recordSize w) (newKit w parts (J .seen)) (drop at s) at ≡ fault at →
-      (ps : List (List ℕ)) → Fault at ≡ judgedOf (whole ps (records (placeBytes parts) n parts [] (drop from s) from))
-  unfolding judgedOf whole
-  judging-fault h e ps =
-      let z : n - k ≡ suc (n - (k + 1)) = omega arith in
+  -- where it stops, the records read are the run
+  stopped : Bytes (drop from s) → {m : ℕ} → n ≡ m → records w (n - k) parts (J .seen) (drop at s) at ≡ stop (n - k) (drop at s) at →
+      record { kept = k; nodes = nodes; end = at } ≡ runTold (records (placeBytes parts) m parts [] (drop from s) from)
+  unfolding runTold
+  stopped b q e =
       let r : records (placeBytes parts) n parts [] (drop from s)
-      from ≡ record { kits = J .pre; rest = drop at s; offset = at; missing = suc (n - (k + 1)) } = J .goes ∙ rw
-      (z, records-faulty w (n - (k + 1)) parts (J .seen) (drop at s) at e) (prepend-stop (J .pre) (suc (n - (k + 1))) (drop at s) at) in
-      let f : eqb (suc (n - (k + 1))) 0 ≡ false = ne-eqb (suc (n - (k + 1))) 0 (λ q. omega arith) in
-      rw (r, f)
-
-  all-read : n ≡ k → records (placeBytes parts) n parts [] (drop from s) from ≡ record { kits = J .pre; rest = drop at s; offset = at; missing = 0 }
-  all-read e =
-      let z : n - k ≡ 0 = omega arith in
-      J .goes ∙ rw (z, records-none w parts (J .seen) (drop at s) at) (prepend-stop (J .pre) 0 (drop at s) at)
-
-  -- bytes remain
-  pub judging-over : n ≡ k → at < length s → (ps : List (List ℕ)) →
-      Fault at ≡ judgedOf (whole ps (records (placeBytes parts) n parts [] (drop from s) from))
-  unfolding judgedOf whole
-  judging-over e h ps =
-      let r = all-read e in
-      let f : eqb (length (drop at s)) 0 ≡ false = ne-eqb (length (drop at s)) 0 (λ q. omega (arith, length-drop at s)) in
-      rw (r, f)
-
-  -- a faultless sheet
-  pub judging-good : Bytes (drop from s) → n ≡ k → length s ≤ at → (sheet : Sheet) → sheet .parts ≡ parts → sheet .kits ≡ n →
-      (ps : List (List ℕ)) → length ps ≡ sheet .parts →
-      Good sheet nodes ≡ judgedOf (whole ps (records (placeBytes parts) n parts [] (drop from s) from))
-  unfolding judgedOf whole
-  judging-good b e h sheet p q ps l =
-      let r = all-read e in
-      let d : drop at s ≡ [] = drop-of-length-le s h in
+      from ≡ record { kits = J .pre; rest = drop at s; offset = at; missing = n - k } = J .goes ∙ rw e (prepend-stop (J .pre) (n - k) (drop at s) at) in
       let R = records-back (placeBytes parts) n parts [] (drop from s) from b in
       let i : rising (J .pre) ≡ true = new-kits-rise (rw r at (R .news)) in
       let g = growth-beginnings (J .pre) i in
       let c : nodes ≡ 1 + length (allBeginnings (J .pre)) = omega (arith, J .count) in
-      rw (r, d) (ap (λ (x : Sheet). Good x nodes) (same-sheet sheet (record { parts = ps; kits = J .pre }) (sym l) (q ∙ e ∙ sym (J .many)))
-      ∙ ap (Good (sheetOf (record { parts = ps; kits = J .pre }))) c)
+      rw (← q, r) (same-run (sym (J .many)) c)
     where
-      same-sheet : (x : Sheet) (c : Contents) → x .parts ≡ length (c .parts) → x .kits ≡ length (c .kits) → x ≡ sheetOf c
-      same-sheet x c e f = λ t. record { parts = e t; kits = f t }
+      same-run : {a b c d : ℕ} → a ≡ b → c ≡ d → _≡_ {A = Run} (record { kept = a; nodes = c; end = at }) (record { kept = b; nodes = d; end = at })
+      same-run e f = λ t. record { kept = e t; nodes = f t; end = at }
+
+  -- at a record at fault
+  pub judging-fault : Bytes (drop from s) → {m : ℕ} → n ≡ m → k < n → one (recordSize w) (newKit w parts (J .seen)) (drop at s) at ≡ fault at →
+      record { kept = k; nodes = nodes; end = at } ≡ runTold (records (placeBytes parts) m parts [] (drop from s) from)
+  judging-fault b q h e =
+      let z : n - k ≡ suc (n - (k + 1)) = omega arith in
+      stopped b q (rw z (records-faulty w (n - (k + 1)) parts (J .seen) (drop at s) at e))
+
+  -- behind the last that is announced
+  pub judging-all : Bytes (drop from s) → {m : ℕ} → n ≡ m → n ≡ k →
+      record { kept = k; nodes = nodes; end = at } ≡ runTold (records (placeBytes parts) m parts [] (drop from s) from)
+  judging-all b q e =
+      let z : n - k ≡ 0 = omega arith in
+      stopped b q (rw z (records-none w parts (J .seen) (drop at s) at))
 
   -- one record more
   module _ (h : k < n) (there : WholeAt w s at) (good : newKit w parts (J .seen) (recordAt w s at) ≡ true) (row : Row)
@@ -227,10 +216,16 @@ module _ (s : List ℕ) (at : ℕ) (ps : List (List ℕ)) where
   unfolding judgedOf behindNumbers onward
   count-short h k = let e = two-short anyTwo s at h k in rw e
 
-  pub count-read : (n m : ℕ) → at + 2 ≤ length s → n ≡ length ps → m ≡ fromBytes (take twoBytes (drop at s)) →
-      judgedOf (whole ps (records (placeBytes n) m n [] (drop (at + 2) s) (at + 2))) ≡ judgedOf (behindNumbers ps (drop at s) at)
-  unfolding behindNumbers onward
-  count-read n m h e f = let i = two-ok anyTwo s at h (any-good (take twoBytes (drop at s))) in rw (i, e, f)
+  pub count-read : (sheet : Sheet) (run : Run) → at + 2 ≤ length s → sheet .parts ≡ length ps → sheet .kits ≡ fromBytes (take twoBytes (drop at s)) →
+      run ≡ runTold (records (placeBytes (sheet .parts)) (sheet .kits) (sheet .parts) [] (drop (at + 2) s) (at + 2)) →
+      Runs sheet run ≡ judgedOf (behindNumbers ps (drop at s) at)
+  unfolding behindNumbers onward judgedOf runTold salvaged runOf
+  count-read sheet run h e f g =
+      let i = two-ok anyTwo s at h (any-good (take twoBytes (drop at s))) in
+      rw i (ap₂ Runs (same-sheet e f) (rw (e, f) at g))
+    where
+      same-sheet : {n m : ℕ} → sheet .parts ≡ n → sheet .kits ≡ m → sheet ≡ record { parts = n; kits = m }
+      same-sheet p q = λ t. record { parts = p t; kits = q t }
 
 -- the numbers, and what follows them
 pub numbers-fault : (s : List ℕ) (n o : ℕ) → numbers n [] (drop headBytes s) headBytes ≡ fault o →
@@ -243,6 +238,6 @@ pub numbers-read : (s : List ℕ) (n at : ℕ) (N : Numbered s n at) →
 unfolding onward
 numbers-read s n at N = let e = N .goes in rw e
 
-pub judged-fault : (s : List ℕ) (o : ℕ) → decode s ≡ fault o → Fault o ≡ judgedOf (decode s)
+pub judged-fault : (s : List ℕ) (o : ℕ) → salvage s ≡ fault o → Fault o ≡ judgedOf (salvage s)
 unfolding judgedOf
 judged-fault s o e = rw e

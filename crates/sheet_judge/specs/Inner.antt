@@ -13,38 +13,51 @@ use Rattle.register.specs.Number.{goodNumber}
 use Rattle.kits.specs.Kits.{goodList, units, mostUnits, unitsIn}
 use Rattle.kits.specs.Inner.{agreed}
 use Rattle.kits.specs.declared.Row.{Row}
-use Rattle.nodes.specs.Held.{Kit}
+use Rattle.nodes.specs.Held.{Kit, allBeginnings}
 use Rattle.sheet.specs.Bytes.{fromBytes, twoBytes}
-use Rattle.sheet.specs.Sheet.{Contents, placeBytes, nodesNeeded}
 use Rattle.sheet.specs.Inner.{headBytes}
-use Rattle.sheet.specs.Reading.{Item, item, fault, Reading, onward, one, bytes, anyTwo, numberSize, newNumber, numbers, hasTag, records, whole, decode}
+use Rattle.sheet.specs.Reading.{Item, item, fault, Reading, onward, one, bytes, anyTwo, numberSize, newNumber, numbers, hasTag, Front, runOf}
+use Rattle.sheet.specs.Reading.{Salvage, salvaged, salvage}
+use Rattle.sheet.specs.Reading as paper
 use Rattle.sheet.specs.declared.Sheet.{Sheet}
 use Rattle.sheet_judge.specs.declared.Judged.{Judged}
-use Rattle.sheet_judge.specs.declared.Judged.the-variants.{Fault, Good}
+use Rattle.sheet_judge.specs.declared.Judged.the-variants.{Fault, Runs}
+use Rattle.sheet_judge.specs.declared.Run.{Run}
 use Rattle.sheet_judge.specs.declared.Read.{Read}
 use Rattle.sheet_judge.specs.declared.Read.the-variants as read
 
--- a sheet's counts
-abbrev pub sheetOf : Contents → Sheet
-sheetOf c = record { parts = length (c .parts); kits = length (c .kits) }
+-- the counts that a sheet announces
+abbrev pub sheetOf : Salvage → Sheet
+sheetOf x = record { parts = length (x .kept .parts); kits = x .announced }
 
--- the offset of the first faulty item; or the counts of a faultless sheet, and the nodes that it needs
-unfoldable pub judgedOf : Item Contents → Judged
-judgedOf (item c bs o) = Good (sheetOf c) (nodesNeeded c)
+-- a run of these kits that ends at an offset: how many, the nodes that they need, and where it ends
+abbrev pub runTo : List Kit → ℕ → Run
+runTo ks o = record { kept = length ks; nodes = 1 + length (allBeginnings ks); end = o }
+
+unfoldable pub runTold : paper.Run → Run
+runTold r = runTo (r .kits) (r .offset)
+
+-- the offset of the first faulty item; or the counts, and the run of records
+unfoldable pub judgedOf : Item Salvage → Judged
+judgedOf (item x bs o) = Runs (sheetOf x) (runTo (x .kept .kits) (x .stopped))
 judgedOf (fault o) = Fault o
 
--- behind the numbers ps: kit count, kit records, the end
-unfoldable pub behindNumbers : List (List ℕ) → Reading Contents
-behindNumbers ps bs o = onward (one (bytes twoBytes) anyTwo bs o) (λ k rest p. whole ps (records (placeBytes (length ps)) (fromBytes k) (length ps) [] rest p))
+-- what is kept behind a front
+abbrev pub behindFront : Front → Reading Salvage
+behindFront f bs o = item (salvaged f (runOf f bs o)) (runOf f bs o .rest) (runOf f bs o .offset)
+
+-- behind the numbers ps: kit count, kit records
+unfoldable pub behindNumbers : List (List ℕ) → Reading Salvage
+behindNumbers ps bs o = onward (one (bytes twoBytes) anyTwo bs o) (λ k. behindFront (record { parts = ps; announced = fromBytes k }))
 
 -- mark, version and part count were read: the part count, or the first fault
 pub record Headed (s : List ℕ) (n : ℕ) : Type 0 where
   pub inside : headBytes ≤ length s
   pub few : n ≤ mostParts
-  pub goes : decode s ≡ onward (numbers n [] (drop headBytes s) headBytes) behindNumbers
+  pub goes : salvage s ≡ onward (numbers n [] (drop headBytes s) headBytes) behindNumbers
 
 abbrev pub headSays : List ℕ → Read → Type 0
-headSays s (read.Fault o) = decode s ≡ fault o
+headSays s (read.Fault o) = salvage s ≡ fault o
 headSays s (read.Done n) = Headed s n
 
 -- n numbers were read: where they end, or the first fault

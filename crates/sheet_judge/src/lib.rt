@@ -1,5 +1,5 @@
-// Document 01, "Only a faultless sheet can get 12": the judge of a whole sheet, which touches no table. It answers the offset where the first
-// faulty item starts, or the counts of a faultless sheet and the nodes that it needs.
+// Document 01, "Only a faultless sheet can get 12", and request 12, "the longest faultless run of kit records from the first on": the judge of a
+// sheet, which touches no table. It answers the offset of the first faulty item up to the kit count, or the counts and the run of records.
 ghost use mathlib.Core.Path.{_≡_};
 ghost use mathlib.Core.Bool.{_&&_, _||_};
 ghost use mathlib.Core.List.{List, [], _∷_};
@@ -11,8 +11,8 @@ ghost use Rattle.ground.specs.Lists.{anyb, isZero};
 ghost use Rattle.kits.specs.Kits.{mostUnits, before, unitsIn};
 ghost use Rattle.sheet.specs.Sheet.{version, placeBytes};
 ghost use Rattle.sheet.specs.Inner.{headBytes};
-ghost use Rattle.sheet.specs.Reading.{versions, onward, numbers, records, whole, decode};
-ghost use Rattle.sheet_judge.specs.Inner.{judgedOf, behindNumbers, headSays, numbersSay, NumberEnds, goodLines, newTag};
+ghost use Rattle.sheet.specs.Reading.{versions, onward, numbers, records, salvage};
+ghost use Rattle.sheet_judge.specs.Inner.{judgedOf, runTold, behindNumbers, headSays, numbersSay, NumberEnds, goodLines, newTag};
 use answers::refused;
 use ground::same;
 use ground::wide16;
@@ -41,12 +41,19 @@ use sheet::two_at;
 // A two-byte tag is one of so many.
 const TAGS: usize = 0x1_0000;
 
+// The longest faultless run of kit records: how many, the nodes that their kits need, and where it ends.
+pub struct Run {
+    pub kept: usize,
+    pub nodes: usize,
+    pub end: usize,
+}
+
 // What the judge answers.
 pub enum Judged {
-    // the offset where the first faulty item starts
+    // the offset of the first faulty item, up to the kit count
     Fault(usize),
-    // a faultless sheet, and the nodes that it needs
-    Good(Sheet, usize),
+    // the counts, of which that of kits is as announced, and the run
+    Runs(Sheet, Run),
 }
 
 // What reading an item answers: the offset of a fault, or what was read.
@@ -187,11 +194,11 @@ fn comes_after(prev: Row, row: Row, k: usize) -> bool
     true
 }
 
-// The kit records from a place on, and the end. A record's list and its row are built once.
-fn judge_records(s: &[u8], from: usize, sheet: Sheet) -> Judged
+// The run of kit records from a place on. A record's list and its row are built once.
+fn judge_records(s: &[u8], from: usize, sheet: Sheet) -> Run
     requires { ⌜ from ≤ length (now s) ⌝ }
-    ensures { λ r. ⌜ ((ps : List (List ℕ)) → length ps ≡ sheet .parts → r ≡ judgedOf
-        (whole ps (records (placeBytes (sheet .parts)) (sheet .kits) (sheet .parts) [] (drop from (now (s .entry))) from))) ⌝ }
+    ensures { λ r. ⌜ r ≡ runTold
+        (records (placeBytes (sheet .parts)) (sheet .kits) (sheet .parts) [] (drop from (now (s .entry))) from) ⌝ }
 {
     let parts = sheet.parts;
     let w = place_bytes(parts);
@@ -202,33 +209,46 @@ fn judge_records(s: &[u8], from: usize, sheet: Sheet) -> Judged
     let mut at = from;
     let mut k = 0;
     while k < n {
-        let end = record_end(s, at, w);
-        if end == at {
-            return Judged::Fault(at);
+        let next = record_end(s, at, w);
+        if next == at {
+            return Run {
+                kept: k,
+                nodes,
+                end: at,
+            };
         }
         let tag = wide16(two_at(s, at));
         let words = list_words(s, at);
         let list = list_in(s, at, w);
         if !record_good(tag, &tags, &list[0..words], parts) {
-            return Judged::Fault(at);
+            return Run {
+                kept: k,
+                nodes,
+                end: at,
+            };
         }
         let row = row_of(&list[0..words]);
         if !comes_after(prev, row, k) {
-            return Judged::Fault(at);
+            return Run {
+                kept: k,
+                nodes,
+                end: at,
+            };
         }
         nodes += row.len - agree(prev, row);
         tags[tag] = 1;
         prev = row;
-        at = end;
+        at = next;
         k += 1;
     }
-    if at < s.len() {
-        return Judged::Fault(at);
+    Run {
+        kept: k,
+        nodes,
+        end: at,
     }
-    Judged::Good(sheet, nodes)
 }
 
-// The kit count behind n numbers, and what follows it.
+// The kit count behind n numbers, and the run of records.
 fn judge_kits(s: &[u8], at: usize, n: usize) -> Judged
     requires { ⌜ at ≤ length (now s) ⌝ ∗ ⌜ n ≤ mostParts ⌝ }
     ensures { λ r. ⌜ ((ps : List (List ℕ)) → length ps ≡ n → r ≡ judgedOf (behindNumbers ps (drop at (now (s .entry))) at)) ⌝ }
@@ -237,7 +257,7 @@ fn judge_kits(s: &[u8], at: usize, n: usize) -> Judged
         return Judged::Fault(at);
     }
     let sheet = Sheet::new(n as u16, two_at(s, at));
-    judge_records(s, at + TWO_BYTES, sheet)
+    Judged::Runs(sheet, judge_records(s, at + TWO_BYTES, sheet))
 }
 
 // n numbers behind the head, and what follows them.
@@ -253,7 +273,7 @@ fn judge_parts(s: &[u8], n: usize) -> Judged
 
 // The whole sheet.
 pub fn judge(s: &[u8]) -> Judged
-    ensures { λ r. ⌜ r ≡ judgedOf (decode (now (s .entry))) ⌝ }
+    ensures { λ r. ⌜ r ≡ judgedOf (salvage (now (s .entry))) ⌝ }
 {
     match read_head(s) {
         Read::Fault(o) => Judged::Fault(o),

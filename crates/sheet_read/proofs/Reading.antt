@@ -112,10 +112,10 @@ accepted s T v e =
     record { faultless = a .0; slots = ltb-false _ _ (b .0); nodes = ltb-false _ _ (c .0); kits = no-refusal _ v (c .1) }
 
 -- to drop an empty kit twice is to drop it once, and what is left needs as much room
-without-twice : (c : Contents) → withoutEmpty (withoutEmpty c) ≡ withoutEmpty c
+pub without-twice : (c : Contents) → withoutEmpty (withoutEmpty c) ≡ withoutEmpty c
 without-twice c = let e = keep-twice someUnit someUnit (λ k e. e) (c .kits) in rw e refl
 
-roomy-without : (c : Contents) (T : Tables) → Roomy c T → Roomy (withoutEmpty c) T
+pub roomy-without : (c : Contents) (T : Tables) → Roomy c T → Roomy (withoutEmpty c) T
 roomy-without c T r = record {
   register-fits = r .register-fits;
   nodes-fit = r .nodes-fit;

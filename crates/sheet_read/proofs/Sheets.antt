@@ -1,7 +1,7 @@
--- What stands in a faultless sheet is what it says; and what reading promises.
+-- What is kept of a sheet stands in it; and what taking it in promises.
 use mathlib.Core.Path.{_≡_, refl, ap, sym, subst, _∙_}
-use mathlib.Core.Bool.{true, false, cond}
-use mathlib.Core.List.{List, [], _∷_, _++_, append-assoc, append-nil}
+use mathlib.Core.Bool.{true}
+use mathlib.Core.List.{List, [], _∷_, _++_, append-assoc}
 use Prim.Native.Nat.{ℕ, zero, suc, _+_, _^_, _≤_, _<_}
 use native.Mathlib.Nat.{add-zero}
 use native.Mathlib.Omega.{arith}
@@ -21,22 +21,24 @@ use Rattle.nodes.specs.Nodes.{size, nodesLength}
 use Rattle.nodes.specs.Held.{Kit, withUnits}
 use Rattle.index_insert.specs.Enter.{enterAll}
 use Rattle.sheet.specs.Bytes.{inBytes, twoBytes, two, Bytes}
-use Rattle.sheet.specs.Sheet.{Contents, placeBytes, numberItem, numberItems, recordItem, recordItems, encodeAs, encode, slotsNeeded}
-use Rattle.sheet.specs.Sheet.{nodesNeeded, withoutEmpty}
+use Rattle.sheet.specs.Sheet.{Contents, placeBytes, numberItem, numberItems, recordItem, recordItems, slotsNeeded, nodesNeeded}
 use Rattle.sheet.specs.Inner.{goodKit, fitsSheet, headBytes}
-use Rattle.sheet.specs.Reading.{Item, item, fault, recordSize, kitIn, decode, isFault, offset, said}
-use Rattle.sheet.specs.Calls.{sheetRefusals, roomRefusals}
+use Rattle.sheet.specs.Reading.{Item, item, fault, recordSize, kitIn, Salvage, salvage, rescued}
+use Rattle.sheet.specs.Calls.{roomRefusals}
 use Rattle.sheet.specs.declared.Sheet.{Sheet}
 use Rattle.sheet.proofs.Widths.{version-width, version-room}
 use Rattle.sheet.proofs.Fits.{Fits, fitting-fits}
 use Rattle.sheet.proofs.Written.{kit-back, record-size}
-use Rattle.sheet.proofs.Laws.{encode-decode}
+use Rattle.sheet.proofs.Accepted.{tornSheet}
+use Rattle.sheet.proofs.Torn.{Torn, torn}
+use Rattle.sheet.proofs.Laws.{fit-fitting}
 use Rattle.sheet.specs.Inner.{numbersAt, endAt, recordAt}
-use Rattle.sheet_judge.specs.Inner.{judgedOf, sheetOf}
-use Rattle.sheet_judge.specs.declared.Judged.the-variants.{Fault, Good}
-use Rattle.ground.specs.Tables.{Tables, tables}
+use Rattle.sheet_judge.specs.Inner.{judgedOf, sheetOf, runTo}
+use Rattle.sheet_judge.specs.declared.Judged.the-variants.{Runs}
+use Rattle.sheet_judge.specs.declared.Run.{Run}
+use Rattle.ground.specs.Tables.{tables}
 use Rattle.sheet_read.specs.Filling.{filling}
-use Rattle.sheet_read.specs.Inner.{readingInto, kitsRead, endRead, NumbersStand, KitsStand}
+use Rattle.sheet_read.specs.Inner.{takingIn, kitsRead, endRead, NumbersStand, KitsStand}
 
 -- Numbers that stand from a place on
 number-on : (s : List ℕ) (at : ℕ) (p : List ℕ) (ps : List (List ℕ)) (rest : List ℕ) → drop at s ≡ numberItems (p ∷ ps) ++ rest →
@@ -141,59 +143,64 @@ kits-are w s n at (k ∷ ks) rest room g h =
           (i .end ∙ (omega (arith, ap length (records-cons w k ks), length-append X (recordItems w ks))));
     }
 
--- A sheet that is written
-module _ (c : Contents) (fits : fitsSheet c ≡ true) where
+-- What is kept of a sheet stands in it
+module _ (c : Contents) (fits : fitsSheet c ≡ true) (m : ℕ) (rest : List ℕ) where
   abbrev S : List ℕ
-  S = encode c
+  S = tornSheet m c rest
 
   abbrev w : ℕ
   w = placeBytes (length (c .parts))
 
   abbrev tail : List ℕ
-  tail = two (length (c .kits)) ++ recordItems w (c .kits)
+  tail = two m ++ (recordItems w (c .kits) ++ rest)
 
   F : Fits c
   F = fitting-fits c fits
 
-  behind-head : drop headBytes (encode c) ≡ numberItems (c .parts) ++ tail
-  unfolding encode encodeAs inBytes
+  behind-head : drop headBytes S ≡ numberItems (c .parts) ++ tail
+  unfolding inBytes
   behind-head = refl
 
-  parts-stand : Stand (encode c) headBytes (c .parts)
-  parts-stand = stand (encode c) headBytes (c .parts) tail (F .numbers-good) behind-head
+  parts-stand : Stand S headBytes (c .parts)
+  parts-stand = stand S headBytes (c .parts) tail (F .numbers-good) behind-head
 
   abbrev first : ℕ
   first = headBytes + length (numberItems (c .parts)) + twoBytes
 
-  behind-count : drop first (encode c) ≡ recordItems w (c .kits) ++ []
+  behind-count : drop first S ≡ recordItems w (c .kits) ++ rest
   unfolding inBytes
   behind-count =
       let P = numberItems (c .parts) in
-      let e : drop (headBytes + length P) (encode c) ≡ tail = sym (drop-drop (length P) headBytes (encode c)) ∙ ap (drop (length P))
+      let e : drop (headBytes + length P) S ≡ tail = sym (drop-drop (length P) headBytes S) ∙ ap (drop (length P))
       behind-head ∙ drop-append-seam P tail in
-      sym (drop-drop 2 (headBytes + length P) (encode c)) ∙ ap (drop 2) e ∙ sym (append-nil (recordItems w (c .kits)))
+      sym (drop-drop 2 (headBytes + length P) S) ∙ ap (drop 2) e
 
-  records-stand : KitsAre w (encode c) first (c .kits)
-  records-stand = kits-are w (encode c) (length (c .parts)) first (c .kits) [] (version-room (length (c .parts)) (F .few-parts)) (F .kits-good) behind-count
+  records-stand : KitsAre w S first (c .kits)
+  records-stand =
+      kits-are w S (length (c .parts)) first (c .kits) rest (version-room (length (c .parts)) (F .few-parts)) (F .kits-good) behind-count
 
-  sheet-long : length (encode c) ≡ first + length (recordItems w (c .kits))
-  unfolding encode encodeAs inBytes
-  sheet-long = omega (arith, length-append (numberItems (c .parts)) tail)
+  sheet-long : first + length (recordItems w (c .kits)) ≤ length S
+  unfolding inBytes
+  sheet-long = omega (arith, length-append (numberItems (c .parts)) tail, length-append (recordItems w (c .kits)) rest)
 
-  pub parts-read : numbersAt (encode c) headBytes (length (c .parts)) ≡ c .parts
+  pub parts-read : numbersAt S headBytes (length (c .parts)) ≡ c .parts
   parts-read = parts-stand .are
 
-  pub first-record : endAt (encode c) headBytes (length (c .parts)) + twoBytes ≡ first
+  first-record : endAt S headBytes (length (c .parts)) + twoBytes ≡ first
   first-record = omega (arith, parts-stand .end)
 
-  pub kits-read : kitsRead (placeBytes (length (c .parts))) (encode c) (endAt (encode c) headBytes (length (c .parts)) + twoBytes) (length (c .kits)) ≡ c .kits
+  pub kits-read :
+      kitsRead (placeBytes (length (c .parts))) S (endAt S headBytes (length (c .parts)) + twoBytes)
+      (length (c .kits)) ≡ c .kits
   kits-read = rw first-record (records-stand .are)
 
-  pub numbers-ready : (R : List ℕ) → registerLength R ≡ true → slotsNeeded c ≤ slotCount R → NumbersStand (encode c) (length (c .parts)) R
+  pub numbers-ready : (R : List ℕ) → registerLength R ≡ true → slotsNeeded c ≤ slotCount R →
+      NumbersStand S (length (c .parts)) R
   numbers-ready R h r = record { fits = h; slots = r; inside = omega (arith, parts-stand .end, sheet-long); short = parts-stand .short }
 
   pub kits-ready : (N : List ℕ) → nodesLength N ≡ true → nodesNeeded c ≤ size N →
-      KitsStand (placeBytes (length (c .parts))) (encode c) (endAt (encode c) headBytes (length (c .parts)) + twoBytes) (length (c .kits)) N
+      KitsStand (placeBytes (length (c .parts))) S (endAt S headBytes (length (c .parts)) + twoBytes)
+      (length (c .kits)) N
   kits-ready N h r =
       let e = kits-read in
       record {
@@ -208,120 +215,119 @@ module _ (c : Contents) (fits : fitsSheet c ≡ true) where
         room = rw e r;
       }
 
--- A sheet that was found faultless
-pub record Faultless (s : List ℕ) (sheet : Sheet) (need : ℕ) : Type 0 where
-  pub says : Contents
+-- A sheet without a fault up to its kit count, as the judge tells it
+pub record Salvageable (s : List ℕ) (sheet : Sheet) (run : Run) : Type 0 where
+  pub saved : Salvage
   pub rest : List ℕ
   pub behind : ℕ
-  pub read : decode s ≡ item says rest behind
-  pub parts : sheet .parts ≡ length (says .parts)
-  pub kits : sheet .kits ≡ length (says .kits)
-  pub nodes : need ≡ nodesNeeded says
+  pub read : salvage s ≡ item saved rest behind
+  pub parts : sheet .parts ≡ length (saved .kept .parts)
+  pub announced : sheet .kits ≡ saved .announced
+  pub kits : run .kept ≡ length (saved .kept .kits)
+  pub nodes : run .nodes ≡ nodesNeeded (saved .kept)
+  pub end : run .end ≡ saved .stopped
 
-pub faultless : (s : List ℕ) (sheet : Sheet) (need : ℕ) → Good sheet need ≡ judgedOf (decode s) → Faultless s sheet need
+pub salvageable : (s : List ℕ) (sheet : Sheet) (run : Run) → Runs sheet run ≡ judgedOf (salvage s) → Salvageable s sheet run
 unfolding judgedOf
-faultless s sheet need e = go (decode s) refl e
+salvageable s sheet run e = go (salvage s) refl e
   where
-    go : (m : Item Contents) → decode s ≡ m → Good sheet need ≡ judgedOf m → Faultless s sheet need
-    go (item c bs o) d f =
-        let q : sheet ≡ sheetOf c = cc in
+    go : (m : Item Salvage) → salvage s ≡ m → Runs sheet run ≡ judgedOf m → Salvageable s sheet run
+    go (item x bs o) d f =
+        let q : sheet ≡ sheetOf x = cc in
+        let p : run ≡ runTo (x .kept .kits) (x .stopped) = cc in
         record {
-          says = c;
+          saved = x;
           rest = bs;
           behind = o;
           read = d;
-          parts = ap (λ (x : Sheet). x .parts) q;
-          kits = ap (λ (x : Sheet). x .kits) q;
-          nodes = cc;
+          parts = ap (λ (y : Sheet). y .parts) q;
+          announced = ap (λ (y : Sheet). y .kits) q;
+          kits = ap (λ (y : Run). y .kept) p;
+          nodes = ap (λ (y : Run). y .nodes) p;
+          end = ap (λ (y : Run). y .end) p;
         }
     go (fault o) d f = absurd (let z : _≡_ {A = ℕ} 0 1 = cc in omega arith)
 
--- What reading promises
-pub reading-13 : (s : List ℕ) (T : Tables) (o : ℕ) → Fault o ≡ judgedOf (decode s) → Promise (readingInto s T) T (refused 13 o) T
-unfolding readingInto sheetRefusals answer decide judgedOf isFault offset
-reading-13 s T o e = promise-refused (readingInto s T) T 13 o (go (decode s) e)
-  where
-    go : (m : Item Contents) → Fault o ≡ judgedOf m →
-        cond (isFault m) (refused 13 (offset m))
-        (decide (roomRefusals (said m) (slotCount (T .register)) (size (T .nodes))) (length (withoutEmpty (said m) .kits))) ≡ refused 13 o
-    go (item c bs p) f = absurd (let z : _≡_ {A = ℕ} 0 1 = cc in omega arith)
-    go (fault p) f = let q : o ≡ p = cc in rw q
+pub is-torn : {s : List ℕ} {sheet : Sheet} {run : Run} (F : Salvageable s sheet run) → Bytes s → (k : ℕ) × Torn s (F .saved) k (F .rest)
+is-torn {s = s} F b = torn s b (F .saved) (F .rest) (F .behind) (F .read)
 
-module _ {s : List ℕ} {sheet : Sheet} {need : ℕ} (F : Faultless s sheet need) (R N : List ℕ) where
-  no-fault : isFault (decode s) ≡ false
-  unfolding isFault
-  no-fault = let e = F .read in rw e
+-- What taking it in promises
+module _ {s : List ℕ} {sheet : Sheet} {run : Run} (F : Salvageable s sheet run) (R N : List ℕ) where
+  abbrev c : Contents
+  c = F .saved .kept
 
-  what-said : said (decode s) ≡ F .says
-  unfolding said
-  what-said = let e = F .read in rw e
+  pub what-kept : rescued (salvage s) ≡ F .saved
+  unfolding rescued
+  what-kept = let e = F .read in rw e
 
-  pub reading-slots : (n : ℕ) → n ≡ sheet .parts → slotCount R < n →
-      Promise (readingInto s (tables R N)) (tables R N) (refused 12 n) (tables R N)
-  unfolding readingInto sheetRefusals roomRefusals answer decide
-  reading-slots n e h =
-      let f = no-fault in
-      let w = what-said in
-      let l = lt-ltb (slotCount R) (length (F .says .parts)) (omega (arith, F .parts)) in
-      promise-refused (readingInto s (tables R N)) (tables R N) 12 n (rw (f, w, l) (ap (refused 12) (sym (e ∙ F .parts))))
+  pub taking-slots : (n : ℕ) → n ≡ sheet .parts → slotCount R < n →
+      Promise (takingIn (rescued (salvage s) .kept) (tables R N)) (tables R N) (refused 12 n) (tables R N)
+  unfolding takingIn roomRefusals answer decide
+  taking-slots n e h =
+      let w = what-kept in
+      let l = lt-ltb (slotCount R) (length (c .parts)) (omega (arith, F .parts)) in
+      promise-refused (takingIn (rescued (salvage s) .kept) (tables R N)) (tables R N) 12 n (rw (w, l) (ap (refused 12) (sym (e ∙ F .parts))))
 
-  pub reading-nodes : sheet .parts ≤ slotCount R → size N < need →
-      Promise (readingInto s (tables R N)) (tables R N) (refused 12 need) (tables R N)
-  unfolding readingInto sheetRefusals roomRefusals answer decide
-  reading-nodes slots h =
-      let f = no-fault in
-      let w = what-said in
-      let l = le-ltb (slotCount R) (length (F .says .parts)) (omega (arith, F .parts)) in
-      let k = lt-ltb (size N) (nodesNeeded (F .says)) (omega (arith, F .nodes)) in
-      promise-refused (readingInto s (tables R N)) (tables R N) 12 need (rw (f, w, l, k) (ap (refused 12) (sym (F .nodes))))
+  pub taking-nodes : sheet .parts ≤ slotCount R → size N < run .nodes →
+      Promise (takingIn (rescued (salvage s) .kept) (tables R N)) (tables R N) (refused 12 (run .nodes)) (tables R N)
+  unfolding takingIn roomRefusals answer decide
+  taking-nodes slots h =
+      let w = what-kept in
+      let l = le-ltb (slotCount R) (length (c .parts)) (omega (arith, F .parts)) in
+      let k = lt-ltb (size N) (nodesNeeded c) (omega (arith, F .nodes)) in
+      promise-refused (takingIn (rescued (salvage s) .kept) (tables R N)) (tables R N) 12 (run .nodes)
+      (rw (w, l, k) (ap (refused 12) (sym (F .nodes))))
 
-  -- with room for both: what stands in the sheet is what it says
-  module _ (b : Bytes s) (n m : ℕ) (parts : n ≡ sheet .parts) (kits : m ≡ sheet .kits) (slots : n ≤ slotCount R)
-      (nodes : need ≤ size N) where
-    again : (encode (F .says) ≡ s) × (fitsSheet (F .says) ≡ true)
-    again = encode-decode s (F .says) (F .rest) (F .behind) b (F .read)
+  -- with room for both: what stands in the sheet is what is kept
+  module _ (b : Bytes s) (n m : ℕ) (parts : n ≡ sheet .parts) (kits : m ≡ run .kept) (slots : n ≤ slotCount R) (nodes : run .nodes ≤ size N) where
+    again : tornSheet (F .saved .announced) (F .saved .kept) (F .rest) ≡ s
+    again = sym (is-torn F b .1 .splits)
 
-    part-count : n ≡ length (F .says .parts)
+    kept-fits : fitsSheet (F .saved .kept) ≡ true
+    kept-fits = fit-fitting (F .saved .kept) (is-torn F b .1 .fit)
+
+    part-count : n ≡ length (F .saved .kept .parts)
     part-count = parts ∙ F .parts
 
-    kit-count : m ≡ length (F .says .kits)
+    kit-count : m ≡ length (F .saved .kept .kits)
     kit-count = kits ∙ F .kits
 
     pub numbers-stand : registerLength R ≡ true → NumbersStand s n R
     numbers-stand h =
         let q = part-count in
-        subst (λ (x : List ℕ). NumbersStand x n R) (again .0) (rw q (numbers-ready (F .says) (again .1) R h (omega arith)))
+        subst (λ (x : List ℕ). NumbersStand x n R) again
+        (rw q (numbers-ready c kept-fits (F .saved .announced) (F .rest) R h (omega arith)))
 
     pub kits-stand : nodesLength N ≡ true → KitsStand (placeBytes n) s (endAt s headBytes n + twoBytes) m N
     kits-stand h =
         let q = part-count in
         let p = kit-count in
-        subst (λ (x : List ℕ). KitsStand (placeBytes n) x (endAt x headBytes n + twoBytes) m N) (again .0)
-        (rw (q, p) (kits-ready (F .says) (again .1) N h (omega (arith, F .nodes))))
+        subst (λ (x : List ℕ). KitsStand (placeBytes n) x (endAt x headBytes n + twoBytes) m N) again
+        (rw (q, p) (kits-ready c kept-fits (F .saved .announced) (F .rest) N h (omega (arith, F .nodes))))
 
-    parts-said : numbersAt s headBytes n ≡ F .says .parts
-    parts-said =
+    parts-kept : numbersAt s headBytes n ≡ F .saved .kept .parts
+    parts-kept =
         let q = part-count in
-        subst (λ (x : List ℕ). numbersAt x headBytes n ≡ F .says .parts) (again .0) (rw q (parts-read (F .says) (again .1)))
+        subst (λ (x : List ℕ). numbersAt x headBytes n ≡ c .parts) again (rw q (parts-read c kept-fits (F .saved .announced) (F .rest)))
 
-    kits-said : kitsRead (placeBytes n) s (endAt s headBytes n + twoBytes) m ≡ F .says .kits
-    kits-said =
+    kits-kept : kitsRead (placeBytes n) s (endAt s headBytes n + twoBytes) m ≡ F .saved .kept .kits
+    kits-kept =
         let q = part-count in
         let p = kit-count in
-        subst (λ (x : List ℕ). kitsRead (placeBytes n) x (endAt x headBytes n + twoBytes) m ≡ F .says .kits) (again .0)
-        (rw (q, p) (kits-read (F .says) (again .1)))
+        subst (λ (x : List ℕ). kitsRead (placeBytes n) x (endAt x headBytes n + twoBytes) m ≡ c .kits) again
+        (rw (q, p) (kits-read c kept-fits (F .saved .announced) (F .rest)))
 
-    pub reading-done : (P Q : List ℕ) (v : ℕ) → P ≡ registerOf (slotCount R) (numbersAt s headBytes n) →
+    pub taking-done : (P Q : List ℕ) (v : ℕ) → P ≡ registerOf (slotCount R) (numbersAt s headBytes n) →
         v ≡ length (withUnits (kitsRead (placeBytes n) s (endAt s headBytes n + twoBytes) m)) →
         Q ≡ enterAll (zeroed N) (withUnits (kitsRead (placeBytes n) s (endAt s headBytes n + twoBytes) m)) →
-        Promise (readingInto s (tables R N)) (tables R N) (done v) (tables P Q)
-    unfolding readingInto sheetRefusals roomRefusals answer decide filling
-    reading-done P Q v p i q =
-        let f = no-fault in
-        let w = what-said in
-        let l = le-ltb (slotCount R) (length (F .says .parts)) (omega (arith, F .parts)) in
-        let k = le-ltb (size N) (nodesNeeded (F .says)) (omega (arith, F .nodes)) in
-        let x : P ≡ registerOf (slotCount R) (F .says .parts) = p ∙ ap (registerOf (slotCount R)) parts-said in
-        let z : v ≡ length (withUnits (F .says .kits)) = i ∙ ap (λ (ks : List Kit). length (withUnits ks)) kits-said in
-        let y : Q ≡ enterAll (zeroed N) (withUnits (F .says .kits)) = q ∙ ap (λ (ks : List Kit). enterAll (zeroed N) (withUnits ks)) kits-said in
-        promise-done (readingInto s (tables R N)) (tables R N) v (tables P Q) (rw (f, w, l, k) (ap done (sym z))) (rw (x, y, w) refl)
+        Promise (takingIn (rescued (salvage s) .kept) (tables R N)) (tables R N) (done v) (tables P Q)
+    unfolding takingIn roomRefusals answer decide filling
+    taking-done P Q v p i q =
+        let w = what-kept in
+        let l = le-ltb (slotCount R) (length (c .parts)) (omega (arith, F .parts)) in
+        let k = le-ltb (size N) (nodesNeeded c) (omega (arith, F .nodes)) in
+        let x : P ≡ registerOf (slotCount R) (c .parts) = p ∙ ap (registerOf (slotCount R)) parts-kept in
+        let z : v ≡ length (withUnits (c .kits)) = i ∙ ap (λ (ks : List Kit). length (withUnits ks)) kits-kept in
+        let y : Q ≡ enterAll (zeroed N) (withUnits (c .kits)) = q ∙ ap (λ (ks : List Kit). enterAll (zeroed N) (withUnits ks)) kits-kept in
+        promise-done (takingIn (rescued (salvage s) .kept) (tables R N)) (tables R N) v (tables P Q)
+        (rw (w, l, k) (ap done (sym z))) (rw (x, y, w) refl)

@@ -17,12 +17,13 @@ use Rattle.register.specs.Number.{longestNumber}
 use Rattle.register.specs.Register.{slotCount, registerLength}
 use Rattle.nodes.specs.Nodes.{size, nodesLength}
 use Rattle.nodes.specs.Held.{Kit, tagsOf, allBeginnings}
-use Rattle.sheet.specs.Sheet.{withoutEmpty}
+use Rattle.sheet.specs.Sheet.{Contents, withoutEmpty}
 use Rattle.sheet.specs.Inner.{Width, goodKit, rising, headBytes, endAt, recordAt, listAt}
-use Rattle.sheet.specs.Reading.{decode, said, recordSize, kitIn}
-use Rattle.sheet.specs.Calls.{sheetRefusals}
+use Rattle.sheet.specs.Reading.{decode, said, recordSize, kitIn, salvage, rescued}
+use Rattle.sheet.specs.Calls.{roomRefusals, sheetRefusals, salvageRefusals, reportOf}
 use Rattle.ground.specs.Tables.{Tables}
 use Rattle.sheet_read.specs.Filling.{filling}
+use Rattle.sheet_read.specs.declared.Salvaged.{Salvaged}
 
 -- 13, then 12; "kits read", of which an empty kit is none
 unfoldable pub readingInto : List ℕ → Tables → Plan Tables
@@ -31,9 +32,27 @@ readingInto s T =
     (length (withoutEmpty (said (decode s)) .kits))
     (filling (withoutEmpty (said (decode s))) T)
 
+-- 12 where there is no room for some contents, or else both tables filled with them, but for an empty kit
+unfoldable pub takingIn : Contents → Tables → Plan Tables
+takingIn c T = plan (roomRefusals c (slotCount (T .register)) (size (T .nodes))) (length (withoutEmpty c .kits)) (filling (withoutEmpty c) T)
+
+-- request 12: "13 up to the kit count, then 12 for the kept part"; the kits kept, of which an empty kit is none
+unfoldable pub salvagingInto : List ℕ → Tables → Plan Tables
+salvagingInto s T =
+    plan (salvageRefusals s (slotCount (T .register)) (size (T .nodes)))
+    (length (withoutEmpty (rescued (salvage s) .kept) .kits))
+    (filling (withoutEmpty (rescued (salvage s) .kept)) T)
+
 -- of a sheet and the tables before: the answer, and the tables after
 abbrev pub ReadPromise : List ℕ → Tables → Answer → Tables → Type 0
 ReadPromise s T r M = Promise (readingInto s T) T (reply r) M
+
+abbrev pub TakePromise : List ℕ → Tables → Answer → Tables → Type 0
+TakePromise s T r M = Promise (takingIn (rescued (salvage s) .kept) T) T (reply r) M
+
+pub record SalvagePromise (s : List ℕ) (T : Tables) (r : Salvaged) (M : Tables) : Type 0 where
+  pub promised : Promise (salvagingInto s T) T (reply (r .answer)) M
+  pub reported : r .report ≡ reportOf (reply (r .answer)) (rescued (salvage s))
 
 -- the m kits whose records, in which places take w bytes, stand from a place on, and where they end
 unfoldable pub kitsRead : ℕ → List ℕ → ℕ → ℕ → List Kit

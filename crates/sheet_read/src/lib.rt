@@ -1,9 +1,10 @@
-// Document 01, "Read a sheet": a sheet that the judge finds faultless fills both tables, if they have room. The whole register and the whole
-// node table are written.
+// Document 01, "Read a sheet", and request 12, "Rescue a torn sheet": a sheet that the judge finds faultless, or what is kept of a torn one, fills
+// both tables, if they have room. The whole register and the whole node table are written.
 ghost use mathlib.Core.Path.{_≡_};
-ghost use mathlib.Core.Bool.{true};
+ghost use mathlib.Core.Bool.{true, _||_};
 ghost use Prim.Native.Nat.{_+_, _*_, _<_, _≤_};
 ghost use lib.ListN.{length};
+ghost use lib.Dec.{ltb};
 ghost use Rattle.ground.specs.Laid.{laid, zeroed};
 ghost use Rattle.repeats.specs.Inner.{numberHere, nextPlace};
 ghost use Rattle.kits.specs.Kits.{mostUnits, units};
@@ -11,15 +12,19 @@ ghost use Rattle.register.specs.Register.{slotBytes, slotCount, registerLength,
 ghost use Rattle.nodes.specs.Nodes.{nodesLength};
 ghost use Rattle.nodes.specs.Held.{withUnits};
 ghost use Rattle.index_insert.specs.Enter.{enterAll};
-ghost use Rattle.sheet.specs.Sheet.{placeBytes, numberItem};
+ghost use Rattle.sheet.specs.Sheet.{Contents, placeBytes, numberItem};
 ghost use Rattle.sheet.specs.Bytes.{twoBytes};
 ghost use Rattle.sheet.specs.Inner.{Width, headBytes, numbersAt, endAt, listAt, WholeAt};
-ghost use Rattle.sheet.specs.Reading.{decode};
+ghost use Rattle.answers.specs.Answers.{reply};
+ghost use Rattle.sheet.specs.Reading.{salvage};
+ghost use Rattle.sheet.specs.Calls.{reportOf};
 ghost use Rattle.sheet_judge.specs.Inner.{judgedOf};
-ghost use Rattle.sheet_judge.specs.declared.Judged.the-variants.{Good};
+ghost use Rattle.sheet_judge.specs.declared.Judged.the-variants.{Runs};
 ghost use Rattle.ground.specs.Tables.{tables};
-ghost use Rattle.sheet_read.specs.Inner.{ReadPromise, kitsRead, emptyFirst, NumberStands, NumbersStand, KitsStand};
+ghost use Rattle.sheet_read.specs.Inner.{ReadPromise, TakePromise, SalvagePromise, kitsRead, emptyFirst, NumberStands, NumbersStand, KitsStand};
 use answers::Answer;
+use answers::refused;
+use answers::reply_of;
 use ground::clear;
 use ground::copy_in;
 use ground::wide16;
@@ -28,6 +33,7 @@ use nodes::clear_nodes;
 use nodes::node_count;
 use register::SLOT_BYTES;
 use register::count_slots;
+use sheet::Report;
 use sheet::Sheet;
 use sheet::TWO_BYTES;
 use sheet::item_size;
@@ -36,6 +42,7 @@ use sheet::record_end;
 use sheet::row_in;
 use sheet::two_at;
 use sheet_judge::Judged;
+use sheet_judge::Run;
 use sheet_judge::judge;
 use sheet_judge::no_row;
 
@@ -126,19 +133,29 @@ pub fn fill(reg: &mut [u8], nodes: &mut [u16], s: &[u8], n: usize, m: usize) -> 
     fill_kits(nodes, s, place_bytes(n as u16), at + TWO_BYTES, m)
 }
 
-// A faultless sheet: 12, or both tables filled.
-fn take_in(reg: &mut [u8], nodes: &mut [u16], s: &[u8], sheet: Sheet, need: usize) -> Answer
-    requires { ⌜ registerLength (now reg) ≡ true ⌝ ∗ ⌜ nodesLength (now nodes) ≡ true ⌝ ∗ ⌜ Good sheet need ≡ judgedOf (decode (now s)) ⌝ }
-    ensures { λ r. ⌜ ReadPromise (now (s .entry)) (tables (now (reg .entry)) (now (nodes .entry))) r (tables (now (reg .exit)) (now (nodes .exit))) ⌝ }
+// What the run keeps of a sheet: 12, or both tables filled with it.
+fn take_in(reg: &mut [u8], nodes: &mut [u16], s: &[u8], sheet: Sheet, run: Run) -> Answer
+    requires { ⌜ registerLength (now reg) ≡ true ⌝ ∗ ⌜ nodesLength (now nodes) ≡ true ⌝ ∗ ⌜ Runs sheet run ≡ judgedOf (salvage (now s)) ⌝ }
+    ensures { λ r. ⌜ TakePromise (now (s .entry)) (tables (now (reg .entry)) (now (nodes .entry))) r (tables (now (reg .exit)) (now (nodes .exit))) ⌝ }
 {
     let parts = wide16(sheet.parts);
     if count_slots(reg) < parts {
         return Answer::NoRoom(parts);
     }
-    if node_count(nodes) < need {
-        return Answer::NoRoom(need);
+    if node_count(nodes) < run.nodes {
+        return Answer::NoRoom(run.nodes);
     }
-    Answer::Done(fill(reg, nodes, s, parts, wide16(sheet.kits)))
+    Answer::Done(fill(reg, nodes, s, parts, run.kept))
+}
+
+// Whether records are missing behind the run, or bytes remain.
+fn is_torn(s: &[u8], sheet: Sheet, run: Run) -> bool
+    ensures { λ r. ⌜ r ≡ (ltb (run .kept) (sheet .kits) || ltb (run .end) (length (now (s .entry)))) ⌝ }
+{
+    if run.kept < wide16(sheet.kits) {
+        return true;
+    }
+    run.end < s.len()
 }
 
 // Reads a sheet into tables that have right lengths: kits read.
@@ -148,6 +165,60 @@ pub fn read_sheet(reg: &mut [u8], nodes: &mut [u16], s: &[u8]) -> Answer
 {
     match judge(s) {
         Judged::Fault(o) => Answer::Fault(o),
-        Judged::Good(sheet, need) => take_in(reg, nodes, s, sheet, need),
+        Judged::Runs(sheet, run) => {
+            if is_torn(s, sheet, run) {
+                return Answer::Fault(run.end);
+            }
+            take_in(reg, nodes, s, sheet, run)
+        }
+    }
+}
+
+// What salvage answers: a number with its value, and three numbers.
+pub struct Salvaged {
+    pub answer: Answer,
+    pub report: Report,
+}
+
+// The report beside an answer: "a refused call reports 0 for kept and announced, with the refusal's value in the third place".
+pub fn report_of(a: Answer, announced: usize, end: usize) -> Report
+    ensures { λ r. ⌜ ((c : Contents) → r ≡ reportOf (reply a) (record { kept = c; announced = announced; stopped = end })) ⌝ }
+{
+    let value = reply_of(a).value;
+    if refused(a) {
+        return Report {
+            kept: 0,
+            announced: 0,
+            third: value,
+        };
+    }
+    Report {
+        kept: value,
+        announced,
+        third: end,
+    }
+}
+
+// Fills tables that have right lengths with what is kept of a sheet, and reports it.
+pub fn salvage(reg: &mut [u8], nodes: &mut [u16], s: &[u8]) -> Salvaged
+    requires { ⌜ registerLength (now reg) ≡ true ⌝ ∗ ⌜ nodesLength (now nodes) ≡ true ⌝ }
+    ensures { λ r. ⌜ SalvagePromise (now (s .entry)) (tables (now (reg .entry)) (now (nodes .entry))) r
+        (tables (now (reg .exit)) (now (nodes .exit))) ⌝ }
+{
+    match judge(s) {
+        Judged::Fault(o) => {
+            let answer = Answer::Fault(o);
+            Salvaged {
+                answer,
+                report: report_of(answer, 0, 0),
+            }
+        }
+        Judged::Runs(sheet, run) => {
+            let answer = take_in(reg, nodes, s, sheet, run);
+            Salvaged {
+                answer,
+                report: report_of(answer, wide16(sheet.kits), run.end),
+            }
+        }
     }
 }

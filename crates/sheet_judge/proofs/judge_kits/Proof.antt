@@ -36,12 +36,13 @@ judge-records-requires c κs =
 
 returns-2 : tie.Need-returns-2
 returns-2 c =
+    let at-new : tie.After-new = search in
+    let at-two-at : tie.After-two-at = search in
     let else1 : tie.Else1 = search in
     let start : tie.Start = search in
-    λ ps l. c .judge-records .ensures ps (l ∙ sym (c .before .new .ensures .0)) ∙ count-read (start .args .s .now)
-    (start .args .at) ps (c .before .new .result .parts) (c .before .new .result .kits)
-    (omega (arith, else1 .if1 .left, start .pre .0)) (c .before .new .ensures .0 ∙ sym l)
-    (c .before .new .ensures .1 ∙ c .before .before .two-at .ensures)
+    λ ps l. count-read (start .args .s .now) (start .args .at) ps (at-new .new .result) (c .judge-records .result)
+    (omega (arith, else1 .if1 .left, start .pre .0)) (at-new .new .ensures .0 ∙ sym l) (at-new .new .ensures .1 ∙ at-two-at .two-at .ensures)
+    (c .judge-records .ensures)
 
 pub judge-kits-spec : {M : Type 1} → statement M
 judge-kits-spec =

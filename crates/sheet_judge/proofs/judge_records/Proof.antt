@@ -1,4 +1,4 @@
--- The kits passed, then what the rest reads as, are all; the marks, the last row and the node count tell of them.
+-- The kits passed, then the run of the rest, are the run of all; the marks, the last row and the node count tell of them.
 use mathlib.Core.Path.{_≡_, sym, _∙_, refl, ap, ap₂}
 use mathlib.Core.Bool.{Bool, true, _&&_, _||_}
 use mathlib.Core.List.{List}
@@ -11,7 +11,7 @@ use Rattle.ground.proofs.Laws.{getD-zeros, and-right}
 use Rattle.kits.specs.Kits.{units, mostUnits, before, unitsIn, fixedRow}
 use Rattle.kits.specs.declared.Row.{Row}
 use Rattle.kits.proofs.Rows.{agreed-right, row-back}
-use Rattle.sheet.specs.Bytes.{fromBytes}
+use Rattle.sheet.specs.Bytes.{fromBytes, Bytes}
 use Rattle.sheet.specs.Reading.{newKit, recordSize}
 use Rattle.sheet.specs.Inner.{recordAt, listAt, WholeAt}
 use Rattle.sheet.proofs.Numbers.{bytes-drop}
@@ -19,18 +19,24 @@ use Rattle.sheet.proofs.Places.{end-moved, lent-list}
 use Rattle.sheet.proofs.Written.{one-bad}
 use Rattle.sheet_judge.specs.Inner.{goodLines, newTag}
 use Rattle.sheet_judge.proofs.Records.{end-stays, new-is, first-bad, second-bad, latest-follows, lines-short}
-use Rattle.sheet_judge.proofs.Walk.{Judging, judging-start, judging-fault, judging-over, judging-good, judging-on}
+use Rattle.sheet_judge.proofs.Walk.{Judging, judging-start, judging-fault, judging-all, judging-on}
 use borrow.Author.Needs.{needs}
 use Rattle.sheet_judge.proofs.judge_records.Statement.{statement}
 use Rattle.sheet_judge.proofs.judge_records.Tie as tie
 
 abbrev Inv-loop : tie.InvT-loop
-Inv-loop s from sheet parts w n tags₀ prev₀ nodes₀ at₀ k₀ tags prev nodes at k =
-    (k ≤ n) × (n < 65536) × (n ≡ sheet .kits) × (parts ≡ sheet .parts) × Judging w s from (sheet .parts) (sheet .kits) tags prev
-    nodes at k
+Inv-loop s from parts w n tags₀ prev₀ nodes₀ at₀ k₀ tags prev nodes at k = (k ≤ n) × (n < 65536) × Judging w s from parts n tags prev nodes at k
 
 abbrev μ-loop : tie.MeasureT-loop
-μ-loop s from sheet parts w n tags₀ prev₀ nodes₀ at₀ k₀ tags prev nodes at k = n - k
+μ-loop s from parts w n tags₀ prev₀ nodes₀ at₀ k₀ tags prev nodes at k = n - k
+
+-- what is lent is bytes
+bytes : (c : tie.After-shared-slice-known Inv-loop μ-loop) →
+    let start : tie.Start Inv-loop μ-loop = search in
+    Bytes (drop (start .args .from) (start .args .s .now))
+bytes c =
+    let start : tie.Start Inv-loop μ-loop = search in
+    bytes-drop (start .args .s .now) (start .args .from) (λ i. omega (arith, c .shared-slice-known .given i))
 
 -- a record that is whole
 moved : (c : tie.Else1 Inv-loop μ-loop) →
@@ -46,7 +52,7 @@ moved c =
     let w = at-place-bytes .place-bytes .result in
     let start : tie.Start Inv-loop μ-loop = search in
     end-moved w (start .args .s .now) (at-loop .loop .at) (c .before .record-end .result) (c .before .record-end .ensures)
-    (at-loop .loop .inv .4 .inside) (c .if1 .left)
+    (at-loop .loop .inv .2 .inside) (c .if1 .left)
 
 -- the words that are lent are the record's list
 part : (c : tie.After-list-in Inv-loop μ-loop) →
@@ -77,7 +83,7 @@ asked : (c : tie.After-wide162 Inv-loop μ-loop) →
     let w = at-place-bytes .place-bytes .result in
     let start : tie.Start Inv-loop μ-loop = search in
     let l = listAt w (start .args .s .now) (at-loop .loop .at) in
-    newKit w (start .args .sheet .parts) (at-loop .loop .inv .4 .seen) (recordAt w (start .args .s .now) (at-loop .loop .at))
+    newKit w (start .args .sheet .parts) (at-loop .loop .inv .2 .seen) (recordAt w (start .args .s .now) (at-loop .loop .at))
     ≡ ((newTag (at-loop .loop .tags) (c .wide162 .result) && goodLines (start .args .sheet .parts) l)
     && (isZero (at-loop .loop .k) || before (unitsIn (at-loop .loop .prev)) (units l)))
 asked c =
@@ -85,12 +91,12 @@ asked c =
     let at-place-bytes : tie.After-place-bytes Inv-loop μ-loop = search in
     let w = at-place-bytes .place-bytes .result in
     let start : tie.Start Inv-loop μ-loop = search in
-    new-is w (start .args .s .now) (at-loop .loop .at) (start .args .sheet .parts) (at-loop .loop .inv .4 .seen)
-    (at-loop .loop .tags) (c .wide162 .result) (at-loop .loop .inv .4 .tags) (tag c) (c .wide162 .ensures .1) ∙ ap
+    new-is w (start .args .s .now) (at-loop .loop .at) (start .args .sheet .parts) (at-loop .loop .inv .2 .seen)
+    (at-loop .loop .tags) (c .wide162 .result) (at-loop .loop .inv .2 .tags) (tag c) (c .wide162 .ensures .1) ∙ ap
     (λ (b : Bool). (newTag (at-loop .loop .tags) (c .wide162 .result)
     && goodLines (start .args .sheet .parts) (listAt w (start .args .s .now) (at-loop .loop .at))) && b)
-    (latest-follows (at-loop .loop .prev) (at-loop .loop .k) (at-loop .loop .inv .4 .seen)
-    (units (listAt w (start .args .s .now) (at-loop .loop .at))) (at-loop .loop .inv .4 .latest))
+    (latest-follows (at-loop .loop .prev) (at-loop .loop .k) (at-loop .loop .inv .2 .seen)
+    (units (listAt w (start .args .s .now) (at-loop .loop .at))) (at-loop .loop .inv .2 .latest))
 
 -- its tag and its lines, as they are judged
 alone : (c : tie.After-record-good Inv-loop μ-loop) →
@@ -178,7 +184,7 @@ good : (c : tie.Else3 Inv-loop μ-loop) →
     let at-place-bytes : tie.After-place-bytes Inv-loop μ-loop = search in
     let w = at-place-bytes .place-bytes .result in
     let start : tie.Start Inv-loop μ-loop = search in
-    newKit w (start .args .sheet .parts) (at-loop .loop .inv .4 .seen) (recordAt w (start .args .s .now) (at-loop .loop .at)) ≡ true
+    newKit w (start .args .sheet .parts) (at-loop .loop .inv .2 .seen) (recordAt w (start .args .s .now) (at-loop .loop .at)) ≡ true
 good c =
     let at-comes-after : tie.After-comes-after Inv-loop μ-loop = search in
     let else2 : tie.Else2 Inv-loop μ-loop = search in
@@ -203,27 +209,26 @@ loop-holds c =
     let start : tie.Start Inv-loop μ-loop = search in (
       omega arith,
       c .before .wide16 .ensures .1,
-      c .before .wide16 .ensures .0,
-      refl,
-      judging-start w (start .args .s .now) (start .args .from) (start .args .sheet .parts) (start .args .sheet .kits) _ _
+      judging-start w (start .args .s .now) (start .args .from) (start .args .sheet .parts) (c .before .wide16 .result) _ _
           (at-place-bytes .place-bytes .ensures .0) (start .pre) (λ t. getD-zeros 65536 t) refl (c .no-row .ensures .1) (c .no-row .ensures .0),
     )
 
 record-end-requires : tie.Need-record-end-requires Inv-loop μ-loop
 record-end-requires c κs =
     let at-place-bytes : tie.After-place-bytes Inv-loop μ-loop = search in
-    (c .before .loop .inv .4 .inside, at-place-bytes .place-bytes .ensures .1)
+    (c .before .loop .inv .2 .inside, at-place-bytes .place-bytes .ensures .1)
 
 returns : tie.Need-returns Inv-loop μ-loop
 returns c =
     let at-loop : tie.At-loop Inv-loop μ-loop = search in
     let at-place-bytes : tie.After-place-bytes Inv-loop μ-loop = search in
     let w = at-place-bytes .place-bytes .result in
+    let at-wide16 : tie.After-wide16 Inv-loop μ-loop = search in
+    let at-shared-slice-known : tie.After-shared-slice-known Inv-loop μ-loop = search in
     let start : tie.Start Inv-loop μ-loop = search in
-    λ ps l. judging-fault (at-loop .loop .inv .4) (omega (arith, at-loop .loop .inv .2))
+    judging-fault (at-loop .loop .inv .2) (bytes at-shared-slice-known) (at-wide16 .wide16 .ensures .0) (omega arith)
     (end-stays w (start .args .s .now) (at-loop .loop .at) (c .before .record-end .result) (c .before .record-end .ensures)
-    (at-loop .loop .inv .4 .inside) (newKit w (start .args .sheet .parts) (at-loop .loop .inv .4 .seen)) (c .if1 .taken))
-    ps
+    (at-loop .loop .inv .2 .inside) (newKit w (start .args .sheet .parts) (at-loop .loop .inv .2 .seen)) (c .if1 .taken))
 
 two-at-requires : tie.Need-two-at-requires Inv-loop μ-loop
 two-at-requires c κs =
@@ -261,14 +266,17 @@ record-good-requires c κs =
 returns-2 : tie.Need-returns-2 Inv-loop μ-loop
 returns-2 c =
     let at-wide162 : tie.After-wide162 Inv-loop μ-loop = search in
+    let in-loop : tie.In-loop Inv-loop μ-loop = search in
     let at-loop : tie.At-loop Inv-loop μ-loop = search in
     let at-place-bytes : tie.After-place-bytes Inv-loop μ-loop = search in
     let w = at-place-bytes .place-bytes .result in
+    let at-wide16 : tie.After-wide16 Inv-loop μ-loop = search in
+    let at-shared-slice-known : tie.After-shared-slice-known Inv-loop μ-loop = search in
     let start : tie.Start Inv-loop μ-loop = search in
-    λ ps l. judging-fault (at-loop .loop .inv .4) (omega (arith, at-loop .loop .inv .2))
-    (one-bad (recordSize w) (newKit w (start .args .sheet .parts) (at-loop .loop .inv .4 .seen))
+    judging-fault (at-loop .loop .inv .2) (bytes at-shared-slice-known) (at-wide16 .wide16 .ensures .0) (in-loop .loop-test .taken)
+    (one-bad (recordSize w) (newKit w (start .args .sheet .parts) (at-loop .loop .inv .2 .seen))
     (drop (at-loop .loop .at) (start .args .s .now)) (at-loop .loop .at)
-    (first-bad _ _ (asked at-wide162) (sym (alone (c .before)) ∙ not-true _ (c .if2 .taken)))) ps
+    (first-bad _ _ (asked at-wide162) (sym (alone (c .before)) ∙ not-true _ (c .if2 .taken))))
 
 sub-row-of : tie.Need-sub-row-of Inv-loop μ-loop
 sub-row-of c = search needs
@@ -288,29 +296,32 @@ row-of-requires c κs =
 comes-after-requires : tie.Need-comes-after-requires Inv-loop μ-loop
 comes-after-requires c κs =
     let at-loop : tie.At-loop Inv-loop μ-loop = search in
-    (at-loop .loop .inv .4 .short, fits c)
+    (at-loop .loop .inv .2 .short, fits c)
 
 returns-3 : tie.Need-returns-3 Inv-loop μ-loop
 returns-3 c =
     let at-wide162 : tie.After-wide162 Inv-loop μ-loop = search in
+    let in-loop : tie.In-loop Inv-loop μ-loop = search in
     let at-loop : tie.At-loop Inv-loop μ-loop = search in
     let at-place-bytes : tie.After-place-bytes Inv-loop μ-loop = search in
     let w = at-place-bytes .place-bytes .result in
     let start : tie.Start Inv-loop μ-loop = search in
+    let at-wide16 : tie.After-wide16 Inv-loop μ-loop = search in
+    let at-shared-slice-known : tie.After-shared-slice-known Inv-loop μ-loop = search in
     let l = listAt w (start .args .s .now) (at-loop .loop .at) in
-    λ ps many. judging-fault (at-loop .loop .inv .4) (omega (arith, at-loop .loop .inv .2))
-    (one-bad (recordSize w) (newKit w (start .args .sheet .parts) (at-loop .loop .inv .4 .seen))
+    judging-fault (at-loop .loop .inv .2) (bytes at-shared-slice-known) (at-wide16 .wide16 .ensures .0) (in-loop .loop-test .taken)
+    (one-bad (recordSize w) (newKit w (start .args .sheet .parts) (at-loop .loop .inv .2 .seen))
     (drop (at-loop .loop .at) (start .args .s .now)) (at-loop .loop .at)
     (second-bad (newTag (at-loop .loop .tags) (at-wide162 .wide162 .result) && goodLines (start .args .sheet .parts) l)
     (isZero (at-loop .loop .k) || before (unitsIn (at-loop .loop .prev)) (units l)) (asked at-wide162)
-    (sym (told (c .before)) ∙ not-true _ (c .if3 .taken)))) ps
+    (sym (told (c .before)) ∙ not-true _ (c .if3 .taken))))
 
 agree-requires : tie.Need-agree-requires Inv-loop μ-loop
 agree-requires c κs =
     let at-row-of : tie.After-row-of Inv-loop μ-loop = search in
     let at-wide162 : tie.After-wide162 Inv-loop μ-loop = search in
     let at-loop : tie.At-loop Inv-loop μ-loop = search in
-    (at-loop .loop .inv .4 .short, fits at-row-of)
+    (at-loop .loop .inv .2 .short, fits at-row-of)
 
 sub-nodes : tie.Need-sub-nodes Inv-loop μ-loop
 sub-nodes c =
@@ -329,13 +340,13 @@ add-nodes c =
     let at-row-of : tie.After-row-of Inv-loop μ-loop = search in
     let at-wide162 : tie.After-wide162 Inv-loop μ-loop = search in
     let at-loop : tie.At-loop Inv-loop μ-loop = search in
-    omega (arith, at-loop .loop .inv .4 .few, at-loop .loop .inv .1, at-loop .loop .inv .0, fits at-row-of)
+    omega (arith, at-loop .loop .inv .2 .few, at-loop .loop .inv .1, at-loop .loop .inv .0, fits at-row-of)
 
 array-write-tags : tie.Need-array-write-tags Inv-loop μ-loop
 array-write-tags c =
     let at-wide162 : tie.After-wide162 Inv-loop μ-loop = search in
     let at-loop : tie.At-loop Inv-loop μ-loop = search in
-    omega (arith, at-wide162 .wide162 .ensures .1, at-loop .loop .inv .4 .board)
+    omega (arith, at-wide162 .wide162 .ensures .1, at-loop .loop .inv .2 .board)
 
 add-k : tie.Need-add-k Inv-loop μ-loop
 add-k c = omega arith
@@ -355,10 +366,8 @@ loop-again c =
     let at-loop : tie.At-loop Inv-loop μ-loop = search in (
       omega arith,
       at-loop .loop .inv .1,
-      at-loop .loop .inv .2,
-      at-loop .loop .inv .3,
-      judging-on (at-loop .loop .inv .4)
-          (omega (arith, at-loop .loop .inv .2)) (moved else1 .0) (good else3) (at-row-of .row-of .result)
+      judging-on (at-loop .loop .inv .2)
+          (omega arith) (moved else1 .0) (good else3) (at-row-of .row-of .result)
           (row-is at-row-of) (short else2) (at-wide162 .wide162 .result) (tag at-wide162)
           (at-wide162 .wide162 .ensures .1) (at-agree .agree .result) (at-agree .agree .ensures) (at-record-end .record-end .result)
           (moved else1 .1),
@@ -367,17 +376,9 @@ loop-again c =
 returns-4 : tie.Need-returns-4 Inv-loop μ-loop
 returns-4 c =
     let at-loop : tie.At-loop Inv-loop μ-loop = search in
-    λ ps l. judging-over (at-loop .loop .inv .4) (omega (arith, at-loop .loop .inv .2)) (c .if4 .taken) ps
-
-returns-5 : tie.Need-returns-5 Inv-loop μ-loop
-returns-5 c =
-    let at-loop : tie.At-loop Inv-loop μ-loop = search in
+    let at-wide16 : tie.After-wide16 Inv-loop μ-loop = search in
     let at-shared-slice-known : tie.After-shared-slice-known Inv-loop μ-loop = search in
-    let start : tie.Start Inv-loop μ-loop = search in
-    λ ps l. judging-good (at-loop .loop .inv .4)
-    (bytes-drop (start .args .s .now) (start .args .from)
-    (λ i. omega (arith, at-shared-slice-known .shared-slice-known .given i))) (omega (arith, at-loop .loop .inv .2))
-    (c .if4 .left) (start .args .sheet) refl refl ps l
+    judging-all (at-loop .loop .inv .2) (bytes at-shared-slice-known) (at-wide16 .wide16 .ensures .0) (omega arith)
 
 pub judge-records-spec : {M : Type 1} → statement M
 judge-records-spec =
@@ -413,5 +414,4 @@ judge-records-spec =
     add-k
     loop-less
     loop-again
-    returns-4
-    returns-5)
+    returns-4)

@@ -1,16 +1,17 @@
--- Slots, then nodes, refuse with what is needed in all; with both, what stands in the sheet is what it says.
+-- Slots, then nodes, refuse with what is needed in all; with both, what stands in the sheet is what is kept.
+use mathlib.Core.Path.{refl}
 use Prim.Native.Nat.{_≤_}
 use native.Mathlib.Omega.{arith}
 use borrow.Author.Needs.{needs}
 use Rattle.register.specs.Register.{slotCount}
 use Rattle.nodes.specs.Nodes.{size}
 use Rattle.sheet.specs.Bytes.{Bytes}
-use Rattle.sheet_read.proofs.Sheets.{Faultless, faultless, reading-slots, reading-nodes, reading-done, numbers-stand, kits-stand}
+use Rattle.sheet_read.proofs.Sheets.{Salvageable, salvageable, taking-slots, taking-nodes, taking-done, numbers-stand, kits-stand}
 use Rattle.sheet_read.proofs.take_in.Statement.{statement}
 use Rattle.sheet_read.proofs.take_in.Tie as tie
 
-good : (c : tie.Start) → Faultless (c .args .s .now) (c .args .sheet) (c .args .need)
-good c = faultless (c .args .s .now) (c .args .sheet) (c .args .need) (c .pre .1 .1)
+good : (c : tie.Start) → Salvageable (c .args .s .now) (c .args .sheet) (c .args .run)
+good c = salvageable (c .args .s .now) (c .args .sheet) (c .args .run) (c .pre .1 .1)
 
 lent : (c : tie.After-shared-slice-known) →
     let start : tie.Start = search in
@@ -30,7 +31,7 @@ returns : tie.Need-returns
 returns c =
     let at-wide16 : tie.After-wide16 = search in
     let start : tie.Start = search in
-    reading-slots (good start) (start .args .reg .now) (start .args .nodes .now) (at-wide16 .wide16 .result)
+    taking-slots (good start) (start .args .reg .now) (start .args .nodes .now) (at-wide16 .wide16 .result)
     (at-wide16 .wide16 .ensures .0) (omega (arith, c .before .count-slots .ensures .0))
 
 node-count-requires : tie.Need-node-count-requires
@@ -44,19 +45,16 @@ same-length-3 c = search needs
 
 returns-2 : tie.Need-returns-2
 returns-2 c =
+    let at-node-count : tie.After-node-count = search in
     let at-count-slots : tie.After-count-slots = search in
     let at-wide16 : tie.After-wide16 = search in
     let start : tie.Start = search in
-    reading-nodes (good start) (start .args .reg .now) (start .args .nodes .now)
+    taking-nodes (good start) (start .args .reg .now) (start .args .nodes .now)
     (omega (arith, at-count-slots .count-slots .ensures .0, at-wide16 .wide16 .ensures .0))
-    (omega (arith, c .before .node-count .ensures))
-
-wide16-requires-2 : tie.Need-wide16-requires-2
-wide16-requires-2 c κs = search needs
+    (omega (arith, at-node-count .node-count .ensures))
 
 fill-requires : tie.Need-fill-requires
 fill-requires c κs =
-    let at-wide162 : tie.After-wide162 = search in
     let at-node-count : tie.After-node-count = search in
     let at-count-slots : tie.After-count-slots = search in
     let at-wide16 : tie.After-wide16 = search in
@@ -67,11 +65,9 @@ fill-requires c κs =
     let R = start .args .reg .now in
     let N = start .args .nodes .now in
     let slots : at-wide16 .wide16 .result ≤ slotCount R = omega (arith, at-count-slots .count-slots .ensures .0) in
-    let nodes : start .args .need ≤ size N = omega (arith, at-node-count .node-count .ensures) in (
-      numbers-stand F R N b (at-wide16 .wide16 .result) (at-wide162 .wide162 .result) (at-wide16 .wide16 .ensures .0)
-          (at-wide162 .wide162 .ensures .0) slots nodes (start .pre .0),
-      kits-stand F R N b (at-wide16 .wide16 .result) (at-wide162 .wide162 .result) (at-wide16 .wide16 .ensures .0)
-          (at-wide162 .wide162 .ensures .0) slots nodes (start .pre .1 .0),
+    let nodes : start .args .run .nodes ≤ size N = omega (arith, at-node-count .node-count .ensures) in (
+      numbers-stand F R N b (at-wide16 .wide16 .result) (start .args .run .kept) (at-wide16 .wide16 .ensures .0) refl slots nodes (start .pre .0),
+      kits-stand F R N b (at-wide16 .wide16 .result) (start .args .run .kept) (at-wide16 .wide16 .ensures .0) refl slots nodes (start .pre .1 .0),
     )
 
 same-length-4 : tie.Need-same-length-4
@@ -83,7 +79,6 @@ same-length-5 c = search needs
 returns-3 : tie.Need-returns-3
 returns-3 c =
     let at-fill : tie.After-fill = search in
-    let at-wide162 : tie.After-wide162 = search in
     let at-node-count : tie.After-node-count = search in
     let at-count-slots : tie.After-count-slots = search in
     let at-wide16 : tie.After-wide16 = search in
@@ -91,8 +86,8 @@ returns-3 c =
     let start : tie.Start = search in
     let R = start .args .reg .now in
     let N = start .args .nodes .now in
-    reading-done (good start) R N (lent at-shared-slice-known) (at-wide16 .wide16 .result) (at-wide162 .wide162 .result)
-    (at-wide16 .wide16 .ensures .0) (at-wide162 .wide162 .ensures .0) (omega (arith, at-count-slots .count-slots .ensures .0))
+    taking-done (good start) R N (lent at-shared-slice-known) (at-wide16 .wide16 .result) (start .args .run .kept)
+    (at-wide16 .wide16 .ensures .0) refl (omega (arith, at-count-slots .count-slots .ensures .0))
     (omega (arith, at-node-count .node-count .ensures)) (at-fill .fill .last .0) (at-fill .fill .last .1 .0)
     (at-fill .fill .result) (at-fill .fill .ensures .0) (at-fill .fill .ensures .1) (at-fill .fill .ensures .2)
 
@@ -108,7 +103,6 @@ take-in-spec =
     same-length-2
     same-length-3
     returns-2
-    wide16-requires-2
     fill-requires
     same-length-4
     same-length-5
