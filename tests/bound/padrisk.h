@@ -48,6 +48,12 @@ uint8_t padrisk_turn_containing(const uint8_t *reg, size_t reg_bytes, const uint
                                 const uint16_t *list, size_t list_words, uint8_t *begun, size_t *len, uint16_t *places,
                                 uint32_t *value);
 
+// The card of a held list: its bytes at the start of the output. And a card read into the nodes: the nodes newly taken.
+uint8_t padrisk_write_card(const uint8_t *reg, size_t reg_bytes, const uint16_t *nodes, size_t node_words, const uint16_t *list,
+                           size_t list_words, uint8_t *out, size_t out_bytes, uint32_t *value);
+uint8_t padrisk_read_card(const uint8_t *reg, size_t reg_bytes, uint16_t *nodes, size_t node_words, const uint8_t *card,
+                          size_t card_bytes, uint32_t *value);
+
 uint8_t padrisk_write_sheet(const uint8_t *reg, size_t reg_bytes, const uint16_t *nodes, size_t node_words, uint8_t *out,
                             size_t out_bytes, uint32_t *value);
 uint8_t padrisk_read_sheet(uint8_t *reg, size_t reg_bytes, uint16_t *nodes, size_t node_words, const uint8_t *sheet,

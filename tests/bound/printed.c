@@ -139,6 +139,40 @@ static void turns_refused(void) {
     expect(mark.begun == 1 && mark.len == 2 && mark.places[0] == 2 && mark.places[1] == 1, "a fall: the bookmark is another");
 }
 
+// A card is read, and the nodes stay where it is refused.
+static void reads_card(const uint8_t *card, size_t bytes, uint8_t number, uint32_t wanted, const char *line) {
+    uint16_t nodes_then[NODES];
+    memcpy(nodes_then, nodes, sizeof nodes);
+    answered(padrisk_read_card(reg, REG, nodes, NODES, card, bytes, &value), number, wanted, line);
+    expect(number == 0 || memcmp(nodes_then, nodes, sizeof nodes) == 0, "a refused card wrote");
+}
+
+// Request 5: the card of 741 and 4016, whose numbers stand the other way round than their places; written, struck out, read, and
+// refused in each way. The kits are afterwards what they were.
+static void cards(void) {
+    enum { TAG_AT = 5, COUNT_AT = 7, HEAD = 8, SECOND_AT = 14, CARD = 19 };
+    static const uint16_t both[] = {2, 1, 3, 1}, other[] = {1, 1, 2, 1}, falls[] = {3, 1, 2, 1};
+    static const uint8_t wanted[CARD] = {0x4B, 0x49, 0x43, 0x00, 0x01, 0x00, 0x0B, 0x02, 0x04, 0x34,
+                                         0x30, 0x31, 0x36, 0x01, 0x03, 0x37, 0x34, 0x31, 0x01};
+    uint8_t card[CARD], out[CARD + 1];
+    memset(out, 0xA5, sizeof out), memcpy(card, wanted, CARD);
+    inserts(11, both, 4, 0, 1);
+    answered(padrisk_write_card(reg, REG, nodes, NODES, both, 4, out, CARD - 1, &value), 12, CARD, "card one byte short");
+    expect(out[0] == 0xA5, "a refused card was written");
+    answered(padrisk_write_card(reg, REG, nodes, NODES, both, 4, out, sizeof out, &value), 0, CARD, "card");
+    expect(memcmp(out, wanted, CARD) == 0 && out[CARD] == 0xA5, "the card is another than the one wanted");
+    answered(padrisk_write_card(reg, REG, nodes, NODES, other, 4, out, sizeof out, &value), 11, 0, "card of a list not held");
+    answered(padrisk_write_card(reg, REG, nodes, NODES, falls, 4, out, sizeof out, &value), 4, 2, "card of a list that falls");
+    reads_card(wanted, CARD, 9, 11, "read a card of a kit held");
+    answered(padrisk_delete(reg, REG, nodes, NODES, both, 4, &value), 0, 11, "D of the card's kit");
+    reads_card(wanted, CARD - 1, 13, SECOND_AT, "read a torn card");
+    card[SECOND_AT + 1] = 'Q', reads_card(card, CARD, 11, 2, "read a card with an unregistered number");
+    memcpy(card, wanted, CARD), card[TAG_AT + 1] = 9, reads_card(card, CARD, 10, 0, "read a card with a tag that is borne");
+    card[COUNT_AT] = 0, reads_card(card, HEAD, 19, 0, "read the card of the empty kit");
+    reads_card(wanted, CARD, 0, 1, "read a card");
+    answered(padrisk_delete(reg, REG, nodes, NODES, both, 4, &value), 0, 11, "D of the kit read");
+}
+
 // The lines of the example up to the first W.
 static void printed_lines(void) {
     static const uint16_t two_and_one[] = {1, 2, 3, 1}, one[] = {1, 1}, second[] = {2, 1}, third[] = {3, 1}, falls[] = {3, 2, 3, 1};
@@ -159,7 +193,7 @@ static void printed_lines(void) {
     answered(padrisk_count_beginning(reg, REG, nodes, NODES, one, 2, &value), 0, 2, "count");
     answered(padrisk_count_beginning(reg, REG, nodes, NODES, one, 0, &value), 0, 3, "count of all");
     answered(padrisk_count_beginning(reg, REG, nodes, NODES, third, 2, &value), 0, 0, "count of none");
-    turns(), turns_refused();
+    turns(), turns_refused(), cards();
     answered(padrisk_find(reg, REG, nodes, NODES, two_and_one, 4, &value), 0, 7, "F");
     answered(padrisk_delete(reg, REG, nodes, NODES, two_and_one, 4, &value), 0, 7, "D");
     answered(padrisk_find(reg, REG, nodes, NODES, two_and_one, 4, &value), 11, 0, "F behind D");

@@ -5,12 +5,13 @@ many by chance: by turns one catalogue that is filled and emptied, and two catal
 must agree exactly when their contents do. No call ever leaves a tag at the root, but in tables that
 were lent with one. A kit that is entered and struck out next leaves both tables as they were.
 Listings are paged through, and kits come and go between two pages. Torn sheets are rescued, and
-what is written then is the sheet of just the kits kept.
+what is written then is the sheet of just the kits kept. Cards go from one catalogue to another in
+which the parts stand at other places.
 """
 
 from made import (
-    empty_sequences, index_sequences, page_sequences, salvage_sequences, sheet_sequences,
-    undone_sequences, version_sequences)
+    card_sequences, empty_sequences, index_sequences, page_sequences, salvage_sequences,
+    sheet_sequences, undone_sequences, version_sequences)
 from made.chance import Chance
 from made.reached import sequences_reached
 from run.door import played
@@ -81,6 +82,11 @@ def compare(command, options):
     comparison.play("other kits announced", salvage_sequences.counts_announced)
     comparison.play("old sheets torn", salvage_sequences.old_sheets)
     comparison.play("room for the kits kept", salvage_sequences.just_enough)
+    comparison.play("cards by hand", card_sequences.by_hand)
+    comparison.play("cards carried over", card_sequences.carried_over)
+    comparison.play("cards of an empty kit", card_sequences.old_cards)
+    comparison.play("room for a card's kit", card_sequences.just_enough)
+    comparison.play("cards beside many parts", card_sequences.beside_many_parts)
     comparison.play("both versions", version_sequences.both_versions)
     comparison.play("4,000 parts", version_sequences.four_thousand_parts)
     for turn in range(options.sequences):

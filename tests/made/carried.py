@@ -3,14 +3,14 @@
 The tables that the program answered go into its next request. Beside them the second program
 carries tables of its own, and every block of every answer is compared. The contents are a third
 account, kept by the calls and replies alone. Behind each call it is asked how many kits begin with
-some row, and the answer is held against the contents, as is every page that is turned. No call
-enters an empty kit: a table has one only where it was lent with it.
+some row, and the answer is held against the contents, as is every page that is turned and every
+card that is written. No call enters an empty kit: a table has one only where it was lent with it.
 """
 
 from collections import Counter
 
 from run.door import Different
-from second import calls, nodes, paging, register, sheet
+from second import calls, card, nodes, paging, register, sheet
 from second.kits import (
     beginnings, first_fault, lines_of, lines_of_words, units, with_units, words_of)
 from second.lent import Request
@@ -58,6 +58,9 @@ class Contents:
         elif request.letter in "rS":
             numbers, read = kits_brought(request, answer)
             self.numbers, self.kits = numbers, with_units(dict(read))
+        elif request.letter == "X":
+            tag, lines = card.read(lent["I"])
+            self.kits[self.row_of_parts(parts_on(lines))] = tag
 
     def nodes_needed(self):
         """The nodes that the kits take: "1 plus the number of different nonempty beginnings"."""
@@ -80,6 +83,14 @@ class Contents:
         left = {"g": lambda kit: Counter(kit) - given, "G": lambda kit: given - Counter(kit)}
         return [kit for kit in sorted(self.listed().kits) if not left[letter](kit)]
 
+    def parts_of(self, row):
+        """A row's units as part numbers, in no order of places: the kit as others know it."""
+        return sorted(self.numbers[place - 1] for place in row)
+
+    def row_of_parts(self, parts):
+        """The units of these part numbers, at their places here."""
+        return tuple(sorted(1 + self.numbers.index(number) for number in parts))
+
     def sheet(self):
         """The sheet that the document lays down for these contents."""
         return sheet.written(self.numbers, self.kits)
@@ -99,6 +110,11 @@ def kits_brought(request, answer):
     except sheet.SheetFault as fault:
         raise Different(["%d kits kept up to byte %d are no faultless sheet:" % (
             answer.value, answer.third), "  " + just.hex(" ")]) from fault
+
+
+def parts_on(lines):
+    """The units that the lines of a card say, as part numbers."""
+    return sorted(number for number, quantity in lines for _ in range(quantity))
 
 
 class Catalogue:
@@ -142,6 +158,8 @@ class Catalogue:
             self.check_count(units(lines_of_words(sent.blocks["L"])), came)
         if letter in PAGE_LETTERS and came.done() and self.told:
             self.check_page(sent, came)
+        if letter == "x" and came.done() and self.told:
+            self.check_card(sent, came)
         return came
 
     def check_root(self):
@@ -178,6 +196,14 @@ class Catalogue:
         expect(came, DONE, self.contents.kits[left[0]] if left else 0, what)
         if came.blocks["K"] != (begun_at(left[0]) if left else bookmark):
             raise Different([what + ": the bookmark", "  %s" % came.blocks["K"]])
+
+    def check_card(self, sent, came):
+        """A card has the tag and the part numbers of the kit, by calls and replies."""
+        row = units(lines_of_words(sent.blocks["L"]))
+        tag, lines = card.read(came.blocks["O"][:came.value])
+        if (tag, parts_on(lines)) != (self.contents.kits.get(row), self.contents.parts_of(row)):
+            raise Different(["a card of %s says tag %d and %s; by calls and replies" % (
+                row, tag, lines), "  %r" % self.contents])
 
     def count_near(self, listed):
         """Counts the kits that begin as this list does, as a held kit does, or with a unit more."""

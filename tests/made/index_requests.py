@@ -21,8 +21,8 @@ from .tables import (
     some_new_tag, some_row, some_tables, swapped, table)
 
 # The calls that are lent both tables and look at them, and those that take a list.
-TABLE_LETTERS = "kfdwcWCagGs#"
-LIST_LETTERS = "kfdwcWCagG#"
+TABLE_LETTERS = "kfdwcWCagGs#xX"
+LIST_LETTERS = "kfdwcWCagG#x"
 QUESTION_LETTERS = "wcWCagG#"
 ALL_LETTERS = "e" + TABLE_LETTERS
 

@@ -216,7 +216,7 @@ def edge_places():
         lists = lists[:6] if parts == MOST_SLOTS - 1 else lists
         for listed, letter in product(lists, LIST_LETTERS):
             yield Request(letter, tag_or_most(letter, 40000), R=register, N=words, L=listed,
-                          P=FIRST_OUTPUT, Q=SECOND_OUTPUT, K=not_begun(),
+                          P=FIRST_OUTPUT, Q=SECOND_OUTPUT, O=bytes(60), K=not_begun(),
                           note="list %s beside %d parts" % (listed, parts))
     # A label just beyond the parts, which the slots would have room for.
     for label in (BYTE_PLACES + 1, MOST_SLOTS):

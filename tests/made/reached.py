@@ -14,8 +14,12 @@ from second.refusals import (
     ALREADY_HELD, BAD_NUMBER, BAD_ORDER, BAD_QUANTITY, BOOKMARK_AT_FAULT, DONE, EMPTY_KIT, LIST,
     NO_ROOM, NOT_HELD, NOT_SOUND, PUNCTUATION_AT_END, SHEET_AT_FAULT, TAG_TAKEN, TAG_ZERO,
     TOO_FAR_SHORT, TOO_MANY_UNITS, WRONG_LENGTH)
+from second.register import MOST_SLOTS
+from second.sheet import BYTE_PLACES
 
 from .bookmarks import PAGE_LETTERS
+from .card_requests import EXAMPLE_CARD
+from .card_ways import CARD_BYTE_SET, CARD_CUT, card_altered, card_cut
 from .many_parts import EDGE_PLACES
 from .many_ways import BEHIND, WIDE_CUT, sizes_read
 from .salvage_ways import (
@@ -97,6 +101,9 @@ NUMBERS = {
     "r": {DONE, WRONG_LENGTH, NO_ROOM, SHEET_AT_FAULT},
     # Never 2, as in reading, and never 16: a sheet may bring in what registration refuses.
     "S": {DONE, WRONG_LENGTH, NO_ROOM, SHEET_AT_FAULT},
+    "x": TABLES | LIST | {NOT_HELD, NO_ROOM},
+    # Never 3 to 8, whose cases are faults of the card, and never 16.
+    "X": TABLES | {SHEET_AT_FAULT, NOT_HELD, EMPTY_KIT, ALREADY_HELD, TAG_TAKEN, NO_ROOM},
 }
 
 
@@ -105,24 +112,24 @@ def answers(numbers, who="%s"):
     return {(who % letter, ANSWER % number) for letter, row in numbers.items() for number in row}
 
 
-# The printed sheet and the smallest one of version 2 must be cut at every byte, and every byte of
-# the printed one must be set to every value: by letter and way, who tells the way, all the spots
-# where it must come, and the spot of a request.
+# The printed sheet, the smallest one of version 2 and the example's card must be cut at every byte,
+# and every byte of the printed one and of the card must be set to every value: by letter and way,
+# who tells the way, all the spots where it must come, and the spot of a request.
 CUT_AT = "%s of %d bytes"
 SET_AT = "%s with byte %d set to %d"
 
 
 def cuts_of(letter, whole):
-    """A sheet cut at every byte."""
+    """A sheet or a card cut at every byte."""
     return ({CUT_AT % (letter, size) for size in range(len(whole))},
             lambda data: CUT_AT % (letter, len(data)))
 
 
-def sets_of(letter):
-    """The printed sheet with every byte set to every other value."""
-    return ({SET_AT % (letter, at, value) for at, byte in enumerate(PRINTED_SHEET)
+def sets_of(letter, whole):
+    """A sheet or a card with every byte set to every other value."""
+    return ({SET_AT % (letter, at, value) for at, byte in enumerate(whole)
              for value in range(256) if value != byte},
-            lambda data: SET_AT % (letter, *byte_set(data)))
+            lambda data: SET_AT % (letter, *byte_set(data, whole)))
 
 
 SPOTS = {
@@ -130,7 +137,9 @@ SPOTS = {
     ("r", WIDE_CUT): (sizes_read, *cuts_of("r", SMALLEST)),
     ("S", TORN_OFF): (printed_torn, *cuts_of("S", PRINTED_SHEET)),
     ("S", WIDE_TORN_OFF): (sizes_kept, *cuts_of("S", SMALLEST)),
-    ("S", BYTE_SET): (printed_altered, *sets_of("S")),
+    ("S", BYTE_SET): (printed_altered, *sets_of("S", PRINTED_SHEET)),
+    ("X", CARD_CUT): (card_cut, *cuts_of("X", EXAMPLE_CARD)),
+    ("X", CARD_BYTE_SET): (card_altered, *sets_of("X", EXAMPLE_CARD)),
 }
 ANY_CALL = BY_CHANCE % "any call"
 
@@ -225,7 +234,7 @@ BROUGHT_IN = "numbers that sheets alone bring in were registered and looked up"
 # Counts by how many of the kits held they tell, and the calls that they are asked behind.
 COUNTED = {"none": "counts of no kit", "one": "counts of one kit",
            "several": "counts of several kits and not all", "all": "counts of all kits by a list"}
-COUNTED_BEHIND = {**{letter: "kits counted behind an accepted " + letter for letter in "epkdrS"},
+COUNTED_BEHIND = {**{letter: "kits counted behind an accepted " + letter for letter in "epkdrSX"},
                   None: "kits counted behind a refusal"}
 PAGED_ON = "pages were turned between other calls"
 PAGED_TO_END = {letter: "listings were paged to their end by %s, and once more" % letter
@@ -260,6 +269,16 @@ RESCUED_LEFT = "rescues were refused for a kit count cut short"
 RESCUED_VERSIONS = {1: "sheets of version 1 were rescued in part",
                     2: "sheets of version 2 were rescued in part"}
 RESCUED_ON_THE_WAY = "sheets were rescued in part between other calls"
+CARDS_CARRIED = "cards were read where places differ and written there alike"
+CARDS_BACK = "kits struck out came back by their cards, and the sheet was as before"
+CARDS_OF_EMPTY = "cards of an empty kit of old tables were written and not taken"
+CARDS_LAST_NODE = "cards took the last free node"
+CARDS_LACKED_NODE = "cards lacked one node until a kit was struck out"
+CARDS_BESIDE = {parts: "cards were carried between catalogues of %d parts" % parts
+                for parts in (BYTE_PLACES, BYTE_PLACES + 1, MOST_SLOTS)}
+CARDS_ON_THE_WAY = {"x": "cards were written between other calls",
+                    "X": "cards were read between other calls"}
+CARDS_HOME = "kits of the aim came in by their cards"
 ENDED_ALIKE = "pairs ended alike"
 ENDED_APART = "pairs ended apart"
 SEQUENCES = "sequences"
@@ -275,7 +294,9 @@ def sequences_reached():
              *PAGED_TO_END.values(), *PAGED_AMID.values(), *PAGED_FULL.values(),
              *PAGED_FAR.values(), *CHANGED.values(), *CHANGED_FULL.values(), RESCUED_WHOLE,
              RESCUED_WRITTEN, RESCUED_NOTHING, RESCUED_OLD, RESCUED_AGAIN, RESCUED_LAST_NODE,
-             RESCUED_TIGHT, RESCUED_LEFT, *RESCUED_VERSIONS.values(), RESCUED_ON_THE_WAY}
+             RESCUED_TIGHT, RESCUED_LEFT, *RESCUED_VERSIONS.values(), RESCUED_ON_THE_WAY,
+             CARDS_CARRIED, CARDS_BACK, CARDS_OF_EMPTY, CARDS_LAST_NODE, CARDS_LACKED_NODE,
+             *CARDS_BESIDE.values(), *CARDS_ON_THE_WAY.values(), CARDS_HOME}
     return Reached(answers(numbers) | {(SEQUENCES, turn) for turn in turns})
 
 

@@ -287,14 +287,14 @@ def printed_torn(asked, came):
 def printed_altered(asked, came):
     """The printed sheet with one byte set."""
     return {BYTE_SET: came.number in (DONE, SHEET_AT_FAULT)
-                      and byte_set(asked.blocks["I"]) is not None}
+                      and byte_set(asked.blocks["I"], PRINTED_SHEET) is not None}
 
 
-def byte_set(data):
-    """The one byte in which this is another sheet than the printed one, and its value; or None."""
-    if len(data) != len(PRINTED_SHEET):
+def byte_set(data, whole):
+    """The one byte in which this differs from the whole sheet or card, and its value; or None."""
+    if len(data) != len(whole):
         return None
-    others = [(at, byte) for at, byte in enumerate(data) if byte != PRINTED_SHEET[at]]
+    others = [(at, byte) for at, byte in enumerate(data) if byte != whole[at]]
     return others[0] if len(others) == 1 else None
 
 

@@ -5,8 +5,10 @@ catalogue is written again as it was.
 """
 
 from run.door import Different
+from second import card
 from second.calls import MOST_SHORT
-from second.kits import MOST_UNITS, lines_of, listing_order, words_of
+from second.kits import (
+    MOST_UNITS, lines_of, lines_of_words, listing_order, units, words_of)
 from second.nodes import NODE_WORDS
 from second.refusals import ALREADY_HELD, DONE, NOT_HELD, PUNCTUATION_AT_END
 from second.register import MOST_SLOTS, SLOT_BYTES, punctuation_at_end
@@ -17,7 +19,8 @@ from .carried import Catalogue, Contents, empty_catalogue, expect
 from .index_requests import QUESTION_LETTERS, some_list, some_room, some_tag
 from .page_sequences import page_through, turn_stray
 from .reached import (
-    ALMOST_FILLED, BROUGHT_IN, ENDED_ALIKE, ENDED_APART, OLD_SHEETS_READ, RESCUED_ON_THE_WAY)
+    ALMOST_FILLED, BROUGHT_IN, CARDS_HOME, CARDS_ON_THE_WAY, ENDED_ALIKE, ENDED_APART,
+    OLD_SHEETS_READ, RESCUED_ON_THE_WAY)
 from .register_requests import ALIKE
 from .salvage_requests import announcing
 from .salvage_ways import front_of
@@ -292,6 +295,43 @@ class Walk:
         came = self.catalogue.call(letter, I=self.chance.pick(sheets))
         self.catalogue.came_to(RESCUED_ON_THE_WAY, came.done() and 0 < came.value < came.second)
 
+    def write_card(self, letter):
+        """A card of a held kit or of a list near it, with about the room that it needs."""
+        kits, numbers = self.contents().kits, self.contents().numbers
+        listed = self.some_list()
+        if kits and self.chance.one_in(2):
+            listed = words_of(lines_of(self.chance.pick(sorted(kits))))
+        size = self.chance.pick([len(card.written(tag, card.numbered(numbers, row)))
+                                 for row, tag in kits.items()] or [8])
+        room = self.chance.pick((0, size - 1, size, size + 3, 300))
+        came = self.catalogue.call(letter, L=listed, O=self.chance.some_bytes(room))
+        self.catalogue.came_to(CARDS_ON_THE_WAY[letter], came.done())
+
+    def read_card(self, letter):
+        """A card of a kit of the aim, of a held one or of another, whole or not, or an empty one.
+
+        A part of the aim that is not registered yet is on some of them.
+        """
+        kits, numbers = self.contents().kits, self.contents().numbers
+        numbers = numbers + self.aim.numbers[len(numbers):]
+        row = some_row(self.chance, sorted(kits), len(numbers))
+        if self.aim.kits and self.chance.one_in(2):
+            row = self.chance.pick(sorted(self.aim.kits))
+        tag = some_tag(self.chance, {**kits, **self.aim.kits})
+        whole = card.written(tag, card.numbered(numbers, row))
+        data = self.chance.pick((whole, whole, whole, whole[:self.chance.below(len(whole))],
+                                 whole + b"\0", card.written(tag, [])))
+        came = self.catalogue.call(letter, I=data)
+        self.catalogue.came_to(CARDS_ON_THE_WAY[letter], came.done())
+
+    def card_or_list(self, letter, a, lent):
+        """This call, or where it inserts a kit now and then the same by the kit's card."""
+        if letter != "k" or not self.chance.one_in(3):
+            return letter, a, lent
+        row = units(lines_of_words(lent["L"]))
+        self.catalogue.came_to(CARDS_HOME)
+        return "X", 0, {"I": card.written(a, card.numbered(self.contents().numbers, row))}
+
     def sheet_on_the_way(self):
         """Contents whose parts begin as the aim's, with kits of the aim and others."""
         parts = self.chance.below(len(self.aim.numbers) + 1)
@@ -333,7 +373,7 @@ class Walk:
             useful = self.useful_calls()
             if not useful:
                 break
-            letter, a, lent = self.chance.pick(useful)
+            letter, a, lent = self.card_or_list(*self.chance.pick(useful))
             self.catalogue.call(letter, a, **lent)
             if self.chance.one_in(5):
                 asked = self.chance.pick(QUESTION_LETTERS)
@@ -344,12 +384,13 @@ class Walk:
 
 
 # The letters of a stray call, and how each is made.
-STRAY_LETTERS = "pppplnkkkkkkkkffdddwcWCaaggGG#srrSS" * 2 + "e"
+STRAY_LETTERS = "pppplnkkkkkkkkffdddwcWCaaggGG#srrSSxXXX" * 2 + "e"
 WAYS = {
     "e": Walk.empty, "p": Walk.register, "l": Walk.look_up, "n": Walk.show, "k": Walk.insert,
     "f": Walk.take_list, "d": Walk.take_list, "w": Walk.question, "c": Walk.question,
     "W": Walk.question, "C": Walk.question, "a": Walk.almost_filled, "g": Walk.turn_page,
     "G": Walk.turn_page, "#": Walk.take_list, "s": Walk.write, "r": Walk.read, "S": Walk.rescue,
+    "x": Walk.write_card, "X": Walk.read_card,
 }
 
 

@@ -15,6 +15,7 @@ from second.refusals import (
     PUNCTUATION_AT_END, SHEET_AT_FAULT, TAG_ZERO, TOO_FAR_SHORT, TOO_MANY_UNITS, WRONG_LENGTH)
 from second.register import LONGEST_NUMBER, PUNCTUATION, SLOT_BYTES
 
+from .card_ways import CARD_WAYS, RARE_CARDS, card_altered, card_cut, card_written
 from .counts import by_parents, counted
 from .empty_ways import (
     TWICE, dropped, empty_found, empty_refused, exact_room, left_out, passed_over, replaced)
@@ -390,6 +391,8 @@ LIMITS = {
     "s": [*BOTH_TABLES, output_into("O"), versions_written, left_out],
     "r": [sheet_read, numbers_read, versions_read, replaced, dropped],
     "S": [*SALVAGE_WAYS, printed_torn, versions_kept],
+    "x": [*AND_LIST, output_into("O"), empty_found, card_written],
+    "X": [*BOTH_TABLES, *CARD_WAYS, card_cut],
 }
 # Those that take large requests too, for each of the calls that have the way beside them.
 LARGE = {
@@ -399,6 +402,7 @@ LARGE = {
     place_given: [slots_lent, parts_lent, places_shown],
     versions_written: [sizes_written], versions_read: [slots_lent, sizes_read, hashes_read],
     printed_torn: [printed_altered], versions_kept: [slots_lent, sizes_kept],
+    card_cut: [card_altered],
 }
 ALL_WAYS = {letter: ways + [large for way in ways for large in LARGE.get(way, [])]
             for letter, ways in LIMITS.items()}
@@ -409,7 +413,7 @@ STORED_WAYS = {
     "a": [almost_filled, OVER, NO_PLACE], "g": [*PAGE_WAYS, PAGE_OVER],
     "G": [*PAGE_WAYS, PAGE_OVER_BY_EMPTY], "#": [wrong_counts, kits_counted, OVER_BY_EMPTY],
     "s": [versions_written, left_out], "r": [versions_read, replaced, dropped],
-    "S": SALVAGE_WAYS,
+    "S": SALVAGE_WAYS, "x": [card_written], "X": CARD_WAYS,
 }
 # Ways that requests by chance hardly ever go: registers are small there.
 OF_MANY_PARTS = [last_of_all, slots_lent, parts_lent, places_told, places_shown, places_listed,
@@ -422,5 +426,6 @@ LEFT_TO_LIMITS = {
     "line 256 of 4,000 at fault", "two lines at fault, and the first is said",
     "an odd list of 8,191 numbers", "an odd list with a line at fault before",
     "64 units counted", "64 units that no kit has", "65 units", *RARE_PAGES, *RARE_RESCUES,
+    *RARE_CARDS,
     *names_of(OF_MANY_PARTS) - BY_CHANCE_TOO, TWICE,
 }

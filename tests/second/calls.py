@@ -1,6 +1,6 @@
 """The answer to a request: every call with its refusals in the order of documents 01 and 02."""
 
-from . import index, kits, nodes, paging, questions, register, sheet
+from . import card, index, kits, nodes, paging, questions, register, sheet
 from .lent import ANSWER_BLOCKS, Answer
 from .refusals import (
     ALREADY_HELD, BAD_NUMBER, BOOKMARK_AT_FAULT, DONE, EMPTY_KIT, NO_ROOM, NOT_HELD, NOT_SOUND,
@@ -101,18 +101,23 @@ def insert_kit(request):
     row = kits.units(kits.checked_lines(lent["L"], parts))
     if len(row) > kits.MOST_UNITS:
         raise Refusal(TOO_MANY_UNITS)
+    return entered(lent["N"], row, tag)
+
+
+def entered(words, row, tag):
+    """A row of at most 64 units entered under this tag: nodes newly taken; or 19, 9, 10, 12."""
     if not row:
         raise Refusal(EMPTY_KIT)
-    held = nodes.held_kits(lent["N"])
+    held = nodes.held_kits(words)
     if row in held:
         raise Refusal(ALREADY_HELD, held[row])
     if tag in held.values():
         raise Refusal(TAG_TAKEN)
-    needed, free = index.missing_nodes(lent["N"], row), index.free_count(lent["N"])
+    needed, free = index.missing_nodes(words, row), index.free_count(words)
     if needed > free:
         # "insertion needs more nodes than are free (value: how many too few)"
         raise Refusal(NO_ROOM, needed - free)
-    return needed, {"N": index.inserted(lent["N"], row, tag)}
+    return needed, {"N": index.inserted(words, row, tag)}
 
 
 def held_row(request):
@@ -245,7 +250,7 @@ def write_sheet(request):
 
 
 def fault_or(reader, data):
-    """What a reader of sheets gives of these bytes; 13 with the offset where it finds a fault."""
+    """What a reader of sheets or cards gives of these bytes; 13 with the offset of a fault."""
     try:
         return reader(data)
     except sheet.SheetFault as fault:
@@ -292,6 +297,43 @@ def salvage_sheet(request):
     return (len(rescued.kits), rescued.announced, rescued.offset), filled
 
 
+def write_card(request):
+    """Write a card for a held list: its bytes.
+
+    "writing has those of finding a list, then 12 with the bytes needed". A held empty kit, which
+    "can be found by its empty list", has a card too.
+    """
+    lent = request.blocks
+    row, tag = held_row(request)
+    written = card.written(tag, card.numbered(register.numbers_of(lent["R"]), row))
+    return len(written), {"O": at_start(lent["O"], written)}
+
+
+def looked_up_lines(register_bytes, lines):
+    """A card's lines with places, "in order of place"; 11 for the first unregistered number."""
+    placed = []
+    for line, (number, quantity) in enumerate(lines, start=1):
+        place = register.place_of(register_bytes, number)
+        if not place:
+            # "then 11 for an unregistered number, value its line"
+            raise Refusal(NOT_HELD, line)
+        placed.append((place, quantity))
+    return sorted(placed)
+
+
+def read_card(request):
+    """Read a card into the index: nodes newly taken.
+
+    "reading has 1 and 2 for the tables, then 13 .., then 11 .., then insertion's 9, 10 and 12"; 19
+    comes "on .. reading its card", before 9. Tag 0 and more than 64 units are faults of the card.
+    """
+    lent = request.blocks
+    check_tables(lent)
+    tag, lines = fault_or(card.read, lent["I"])
+    row = kits.units(looked_up_lines(lent["R"], lines))
+    return entered(lent["N"], row, tag)
+
+
 # The calls by letter. Each gives its value, or three numbers, and the blocks that it changes; or it
 # raises a Refusal.
 CALLS = {
@@ -313,6 +355,8 @@ CALLS = {
     "s": write_sheet,
     "r": read_sheet,
     "S": salvage_sheet,
+    "x": write_card,
+    "X": read_card,
 }
 LETTERS = "".join(CALLS)
 

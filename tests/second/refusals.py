@@ -20,7 +20,7 @@ TOO_FAR_SHORT = 14
 BOOKMARK_AT_FAULT = 15
 # Request 6: "new 16, on registration only, after 3 and before 9".
 PUNCTUATION_AT_END = 16
-# Request 14: "new 19, on inserting it .., after 7 and before 9".
+# Request 14: "new 19, on inserting it or reading its card, after 7 and before 9".
 EMPTY_KIT = 19
 
 # What is wrong with a list.

@@ -71,7 +71,7 @@ def record(version, tag, lines):
 
 
 class Items:
-    """The bytes of a sheet, taken item by item."""
+    """The bytes of a sheet or a card, taken item by item."""
 
     def __init__(self, data):
         self.data = data
@@ -137,13 +137,18 @@ def without_empty(kits):
 
 def read_front(items):
     """All that stands before the kit records: the version, the part numbers and the kit count."""
-    items.begin()
-    if items.take(len(MARK)) != MARK:
-        raise items.fault()
+    read_mark(items, MARK)
     version = read_version(items)
     numbers = read_numbers(items, version)
     items.begin()
     return version, numbers, items.take_number(TWO_BYTES)
+
+
+def read_mark(items, mark):
+    """The mark, with which a sheet and a card begin."""
+    items.begin()
+    if items.take(len(mark)) != mark:
+        raise items.fault()
 
 
 def read_end(items):

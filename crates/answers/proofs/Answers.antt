@@ -27,7 +27,7 @@ done-or-refused v.TooMany = inr (omega arith, refl)
 done-or-refused v.NoTag = inr (omega arith, refl)
 done-or-refused (v.Held x) = inr (omega arith, refl)
 done-or-refused v.TagBorne = inr (omega arith, refl)
-done-or-refused v.NotHeld = inr (omega arith, refl)
+done-or-refused (v.NotHeld x) = inr (omega arith, refl)
 done-or-refused (v.NoRoom x) = inr (omega arith, refl)
 done-or-refused (v.Fault x) = inr (omega arith, refl)
 done-or-refused v.TooFar = inr (omega arith, refl)
@@ -50,7 +50,7 @@ inOrder x =
     ∷ v.NoTag
     ∷ v.Held x
     ∷ v.TagBorne
-    ∷ v.NotHeld
+    ∷ v.NotHeld x
     ∷ v.NoRoom x
     ∷ v.Fault x
     ∷ v.TooFar
@@ -77,7 +77,7 @@ answer-back v.TooMany = refl
 answer-back v.NoTag = refl
 answer-back (v.Held x) = refl
 answer-back v.TagBorne = refl
-answer-back v.NotHeld = refl
+answer-back (v.NotHeld x) = refl
 answer-back (v.NoRoom x) = refl
 answer-back (v.Fault x) = refl
 answer-back v.TooFar = refl

@@ -22,7 +22,8 @@ pub enum Answer {
     // with the place or the tag that it has
     Held(usize),
     TagBorne,
-    NotHeld,
+    // with the line of a card, or 0
+    NotHeld(usize),
     // with what is missing, or needed in all
     NoRoom(usize),
     // a sheet at fault, with the offset of its first faulty item
@@ -52,7 +53,7 @@ pub fn refused(a: Answer) -> bool
         Answer::NoTag => true,
         Answer::Held(_) => true,
         Answer::TagBorne => true,
-        Answer::NotHeld => true,
+        Answer::NotHeld(_) => true,
         Answer::NoRoom(_) => true,
         Answer::Fault(_) => true,
         Answer::TooFar => true,
@@ -120,7 +121,7 @@ fn number_of(a: Answer) -> u8
         Answer::NoTag => NO_TAG,
         Answer::Held(_) => HELD,
         Answer::TagBorne => TAG_BORNE,
-        Answer::NotHeld => NOT_HELD,
+        Answer::NotHeld(_) => NOT_HELD,
         Answer::NoRoom(_) => NO_ROOM,
         Answer::Fault(_) => FAULT,
         Answer::TooFar => TOO_FAR,
@@ -146,7 +147,7 @@ fn value_of(a: Answer) -> usize
         Answer::NoTag => 0,
         Answer::Held(v) => v,
         Answer::TagBorne => 0,
-        Answer::NotHeld => 0,
+        Answer::NotHeld(v) => v,
         Answer::NoRoom(v) => v,
         Answer::Fault(v) => v,
         Answer::TooFar => 0,

@@ -1,4 +1,4 @@
--- The cases of requests 3, 4, 6, 7, 12 and 14, computed.
+-- The cases of requests 3, 4, 5, 6, 7, 12 and 14, computed.
 use mathlib.Core.Path.{refl}
 use Rattle.demands.specs.Before.{goodByteBefore, goodNumberBefore, newNumberBefore, numbersBefore, frontBefore, decodeBefore}
 use Rattle.demands.specs.Pages.{pagesAmong}
@@ -7,6 +7,7 @@ use Rattle.cases.specs.Limits.{fiveParts}
 use Rattle.cases.specs.Requests.{pageTables, behindRow, markAnswer, PageCases}
 use Rattle.cases.specs.Requests.{BeforeCases, tornTables, TornCases, counted, countedLess, CountCases}
 use Rattle.cases.specs.Requests.{fromBefore, emptyGone, readBefore, EmptyCases, reportWith, writtenAfter, RescueCases}
+use Rattle.cases.specs.Requests.{partsWith, sentFrom, sentTo, readThere, cardAnswer, CardCases}
 use Rattle.cases.proofs.Opened.{opened}
 
 pub before-cases : BeforeCases
@@ -32,3 +33,7 @@ empty-cases = (refl, refl, refl, refl, refl, refl, refl, refl, refl, refl, refl,
 pub rescue-cases : RescueCases
 unfolding opened insertRows holding reportWith writtenAfter
 rescue-cases = (refl, refl, refl, refl, refl, refl, refl, refl, refl, refl, refl, refl, refl)
+
+pub card-cases : CardCases
+unfolding opened insertRows holding fiveParts fromBefore partsWith sentFrom sentTo readThere cardAnswer
+card-cases = (refl, refl, refl, refl, refl, refl, refl, refl, refl, refl, refl, refl, refl, refl, refl, refl, refl)

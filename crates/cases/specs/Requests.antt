@@ -1,9 +1,9 @@
--- What requests 3, 4, 6, 7, 12 and 14 ask, in literal numbers. Computed. The law that proves a statement stands behind "Proof", in proofs/Requests.
+-- What requests 3, 4, 5, 6, 7, 12 and 14 ask, in literal numbers. Computed. The law that proves a statement stands behind "Proof", in proofs/Requests.
 use mathlib.Core.Path.{_≡_}
 use mathlib.Core.Bool.{true, false}
 use mathlib.Core.List.{List, [], _∷_, _++_, map}
 use Prim.Native.Nat.{ℕ, _-_, _*_}
-use lib.ListN.{length, replicate, take}
+use lib.ListN.{length, replicate, take, drop}
 use Rattle.ground.specs.Calls.{Reply, done, refused, answer, memory, both}
 use Rattle.ground.specs.Tables.{Tables, tables}
 use Rattle.register.specs.Register.{registerSound}
@@ -14,8 +14,8 @@ use Rattle.pages.specs.declared.Bookmark.{Bookmark}
 use Rattle.sheet.specs.Reading.{item, fault, decode}
 use Rattle.sheet.specs.declared.Report.{Report}
 use Rattle.catalogue.specs.Calls.{registerPart, lookUp, showAt, planOf, inserting, finding, deleting, anyKit, almostKits, reading, writing, counting}
-use Rattle.catalogue.specs.Calls.{deleteKit, insertKit, turning, salvaging}
-use Rattle.demands.specs.Model.{has}
+use Rattle.catalogue.specs.Calls.{deleteKit, insertKit, readingCard, turning, salvaging, writingCard}
+use Rattle.demands.specs.Model.{has, tablesOf}
 use Rattle.demands.specs.Before.{decodeBefore}
 use Rattle.demands.specs.Pages.{pagesAmong, pagesFrom}
 use Rattle.demands.specs.Rescue.{reportIn, reports}
@@ -247,3 +247,74 @@ RescueCases =
     -- written afterwards: the faultless sheet with just those kits
     × (writtenAfter 20 (take 26 sheetNow) ≡ sheetOfOne)
     × (writtenAfter 27 (sheetNow ++ (0 ∷ [])) ≡ sheetNow)
+
+------------------------------------------------------------------------
+-- Request 5: a card
+
+-- these parts, so many nodes, and no kit
+unfoldable pub partsWith : ℕ → List (List ℕ) → Tables
+partsWith n ps = tablesOf (record { slots = length ps; room = n; calls = map registerPart ps })
+
+abbrev pub abFirst : List (List ℕ)
+abFirst = (0x41 ∷ 0x42 ∷ []) ∷ (0x41 ∷ []) ∷ (0x61 ∷ []) ∷ []
+
+-- 3 of AB, 2 of A and 1 of a, with the tag 300, where they have the places 1, 2 and 3
+unfoldable pub sentFrom : Tables
+sentFrom = let T = partsWith 7 abFirst in memory (inserting (1 ∷ 3 ∷ 2 ∷ 2 ∷ 3 ∷ 1 ∷ []) 300 T) T
+
+-- its card: A before AB, which it begins, and both before a
+abbrev pub theCard : List ℕ
+theCard = 0x4B ∷ 0x49 ∷ 0x43 ∷ 0 ∷ 1 ∷ 1 ∷ 0x2C ∷ 3 ∷ 1 ∷ 0x41 ∷ 2 ∷ 2 ∷ 0x41 ∷ 0x42 ∷ 3 ∷ 1 ∷ 0x61 ∷ 1 ∷ []
+
+-- the same parts the other way round, and the card read there
+unfoldable pub sentTo : Tables
+sentTo = partsWith 7 ((0x61 ∷ []) ∷ (0x41 ∷ []) ∷ (0x41 ∷ 0x42 ∷ []) ∷ [])
+
+unfoldable pub readThere : Tables
+readThere = memory (readingCard theCard sentTo) sentTo
+
+unfoldable pub cardAnswer : List ℕ → Reply
+cardAnswer s = answer (readingCard s sentTo)
+
+-- a card with this version, tag and line count, and these bytes behind them
+abbrev pub cardBytes : ℕ → ℕ → ℕ → List ℕ → List ℕ
+cardBytes v t n bs = 0x4B ∷ 0x49 ∷ 0x43 ∷ 0 ∷ v ∷ 0 ∷ t ∷ n ∷ bs
+
+-- five lines: 15 each of A, B, C and D, and q of E
+abbrev pub sixtyLines : ℕ → List ℕ
+sixtyLines q = 1 ∷ 0x41 ∷ 15 ∷ 1 ∷ 0x42 ∷ 15 ∷ 1 ∷ 0x43 ∷ 15 ∷ 1 ∷ 0x44 ∷ 15 ∷ 1 ∷ 0x45 ∷ q ∷ []
+
+-- [14.16] Proof: `card-cases`
+abbrev pub CardCases : Type 0
+CardCases =
+    -- written, and what lies behind it stays; 12 for an output one short; "those of finding a list"
+    (answer (writingCard (1 ∷ 3 ∷ 2 ∷ 2 ∷ 3 ∷ 1 ∷ []) sentFrom (replicate 19 9)) ≡ done 18)
+    × (memory (writingCard (1 ∷ 3 ∷ 2 ∷ 2 ∷ 3 ∷ 1 ∷ []) sentFrom (replicate 19 9)) (replicate 19 9) ≡ theCard ++ (9 ∷ []))
+    × (answer (writingCard (1 ∷ 3 ∷ 2 ∷ 2 ∷ 3 ∷ 1 ∷ []) sentFrom (replicate 17 9)) ≡ refused 12 18)
+    × (map (λ l. answer (writingCard l sentFrom [])) ((1 ∷ []) ∷ (4 ∷ 1 ∷ []) ∷ (1 ∷ 16 ∷ []) ∷ (1 ∷ 3 ∷ []) ∷ [])
+    ≡ refused 4 1 ∷ refused 5 1 ∷ refused 6 1 ∷ refused 11 0 ∷ [])
+    -- "Read where the places differ, it gives the same numbers and quantities", and the same card
+    × (cardAnswer theCard ≡ done 6)
+    × (answer (finding (1 ∷ 1 ∷ 2 ∷ 2 ∷ 3 ∷ 3 ∷ []) readThere) ≡ done 300)
+    × (memory (writingCard (1 ∷ 1 ∷ 2 ∷ 2 ∷ 3 ∷ 3 ∷ []) readThere (replicate 18 9)) (replicate 18 9) ≡ theCard)
+    -- 13: mark, version, tag 0, no line count, the third line cut, bytes behind
+    × (map cardAnswer
+    ((0x4B ∷ 0x49 ∷ 0x54 ∷ drop 3 theCard) ∷ cardBytes 2 7 0 [] ∷ cardBytes 1 0 0 [] ∷ take 7 theCard ∷ take 17 theCard ∷ (theCard ++ (0 ∷ [])) ∷ [])
+    ≡ refused 13 0 ∷ refused 13 3 ∷ refused 13 5 ∷ refused 13 7 ∷ refused 13 15 ∷ refused 13 18 ∷ [])
+    -- a line: AB before A, A twice, no number, a space, a quantity of 0 and of 16
+    × (map (λ bs. cardAnswer (cardBytes 1 7 2 bs)) ((2 ∷ 0x41 ∷ 0x42 ∷ 1 ∷ 1 ∷ 0x41 ∷ 1 ∷ []) ∷ (1 ∷ 0x41 ∷ 1 ∷ 1 ∷ 0x41 ∷ 1 ∷ []) ∷ [])
+    ≡ refused 13 12 ∷ refused 13 11 ∷ [])
+    × (map (λ bs. cardAnswer (cardBytes 1 7 1 bs)) ((0 ∷ 1 ∷ []) ∷ (1 ∷ 0x20 ∷ 1 ∷ []) ∷ (1 ∷ 0x41 ∷ 0 ∷ []) ∷ (1 ∷ 0x41 ∷ 16 ∷ []) ∷ [])
+    ≡ replicate 4 (refused 13 8))
+    -- "units past 64 are charged to the line that passes it"; 64 are not, and then B is not registered
+    × (map (λ q. cardAnswer (cardBytes 1 7 5 (sixtyLines q))) (5 ∷ 4 ∷ []) ≡ refused 13 20 ∷ refused 11 2 ∷ [])
+    -- "11 .., value its line", behind 13 and before 12; 2 before them
+    × (map (λ s. answer (readingCard s (partsWith 1 ((0x41 ∷ []) ∷ (0x61 ∷ []) ∷ [])))) (theCard ∷ (theCard ++ (0 ∷ [])) ∷ [])
+    ≡ refused 11 2 ∷ refused 13 18 ∷ [])
+    × (answer (readingCard [] (tables badRegister (fiveParts 1 .nodes))) ≡ refused 2 0)
+    -- 19 for the empty card, of 8 bytes, also where its tag is taken; a table from before writes it
+    × (map (λ T. answer (readingCard (take 7 theCard ++ (0 ∷ [])) T)) (sentTo ∷ readThere ∷ []) ≡ refused 19 0 ∷ refused 19 0 ∷ [])
+    × (memory (writingCard [] fromBefore (replicate 8 9)) (replicate 8 9) ≡ cardBytes 1 7 0 [])
+    -- 9 with its tag, 10, and 12 with the nodes lacking
+    × (map (λ s. answer (readingCard s readThere)) (theCard ∷ (take 7 theCard ++ (1 ∷ 1 ∷ 0x41 ∷ 1 ∷ [])) ∷ []) ≡ refused 9 300 ∷ refused 10 0 ∷ [])
+    × (answer (readingCard theCard (partsWith 5 abFirst)) ≡ refused 12 2)

@@ -5,9 +5,9 @@ use mathlib.Core.Bool.{true}
 use mathlib.Core.List.{List, _∷_, [], _++_}
 use Prim.Native.Nat.{ℕ, _*_, _≤_, _<_}
 use native.Mathlib.Omega.{arith}
-use lib.ListN.{length, replicate, length-append, length-replicate}
+use lib.ListN.{length, getD, replicate, length-append, length-replicate}
 use borrow.Author.Tests.{eqb-false, ltb-false}
-use Rattle.ground.specs.Limits.{mostParts}
+use Rattle.ground.specs.Limits.{mostParts, twoLimit}
 use Rattle.ground.specs.Laid.{zeroed}
 use Rattle.ground.specs.Calls.{Case, Plan, Reply, done, refused, isRefused, decide, answer, leaves, memory}
 use Rattle.ground.specs.Tables.{Tables, tables}
@@ -23,14 +23,17 @@ use Rattle.nodes.specs.Held.{tagIn, held}
 use Rattle.nodes.proofs.Beginnings.{widen}
 use Rattle.nodes.proofs.Empty.{zeros-sound}
 use Rattle.nodes.proofs.Fields.{length-sized, sized-length}
+use Rattle.nodes.proofs.Held.{held-good}
+use Rattle.nodes.proofs.Listing.{tag-from}
 use Rattle.index_insert.specs.Enter.{enter, lacks}
 use Rattle.index_delete.specs.Strike.{strike}
-use Rattle.index.specs.Inner.{insertingRow, deletingRow}
-use Rattle.index.proofs.Kept.{Accepted, accepted, accepted-some-unit, deleting-tag, insert-sound, insert-length, delete-sound, delete-length}
+use Rattle.index.specs.Inner.{insertingRow, findingRow, deletingRow}
+use Rattle.index.proofs.Kept.{Accepted, accepted, accepted-some-unit, finding-tag, deleting-tag, insert-sound, insert-length, delete-sound, delete-length}
+use Rattle.sheet_read.proofs.RoundTrip.{words-small}
 use Rattle.tables.specs.Lent.{partCount, lentBoth, lentList}
 use Rattle.tables.specs.Inner.{SoundTables}
 use Rattle.tables.proofs.Lent.{list-passed}
-use Rattle.catalogue.specs.Calls.{onRegister, inserting, deleting}
+use Rattle.catalogue.specs.Calls.{onRegister, inserting, finding, deleting}
 
 ------------------------------------------------------------------------
 -- Calls that are done
@@ -155,6 +158,35 @@ insert-keeps-sound l t T v i s =
           same-nodes-length (T .nodes) (enter (T .nodes) (units l) t) (insert-length (s .sound) r (i .some-tag) (i .accepted)) (s .sized);
       sound = insert-sound (s .sound) r (i .some-tag) (i .accepted);
     }
+
+------------------------------------------------------------------------
+-- Finding
+
+-- what a list that is found was given
+pub record Found (l : List ℕ) (T : Tables) (t : ℕ) : Type 0 where
+  pub good : goodList (partCount T) l ≡ true
+  pub some-tag : tagIn (units l) (held (T .nodes)) ≢ 0
+  pub has : tagIn (units l) (held (T .nodes)) ≡ t
+
+pub found : (l : List ℕ) (T : Tables) (t : ℕ) → answer (finding l T) ≡ done t → Found l T t
+unfolding answer finding findingRow lentList
+found l T t e =
+    let a = done-parts (lentList T l) _ 0 _ t e in
+    let f = done-parts (lentBoth T) _ 0 _ 0 (a .0) in
+    let k = finding-tag (units l) (T .nodes) t (a .1) in
+    record { good = list-passed (partCount T) l (ap isRefused (f .1)); some-tag = k .0; has = k .1 }
+
+-- in sound tables it has at most 64 units, and a tag of 16 bits where words have 16
+module _ {l : List ℕ} {T : Tables} {t : ℕ} (S : SoundTables T) (F : Found l T t) where
+  pub found-short : length (units l) ≤ mostUnits
+  found-short =
+      let k = tag-from (units l) (held (T .nodes)) (F .some-tag) in
+      omega (arith, held-good (S .sound .shape) (k .0) (k .1) .short, ap length (k .2))
+
+  pub found-small : ((i : ℕ) → getD (T .nodes) i 0 < twoLimit) → t < twoLimit
+  found-small words =
+      let k = tag-from (units l) (held (T .nodes)) (F .some-tag) in
+      omega (arith, words-small (S .sound .shape) words (k .0) (k .1), k .3, F .has)
 
 ------------------------------------------------------------------------
 -- Deleting

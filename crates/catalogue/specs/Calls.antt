@@ -9,7 +9,7 @@ use lib.Dec.{ltb}
 use Rattle.ground.specs.Lists.{isZero}
 use Rattle.ground.specs.Laid.{zeroed}
 use Rattle.ground.specs.Calls.{given, Plan, plan, Promise, setDown, Both}
-use Rattle.register.specs.Register.{slotCount}
+use Rattle.register.specs.Register.{partsOf, slotCount}
 use Rattle.register.specs.Calls.{registering, lookingUp, showing}
 use Rattle.kits.specs.Kits.{mostUnits, units, listFaults}
 use Rattle.nodes.specs.Nodes.{size}
@@ -25,6 +25,9 @@ use Rattle.sheet.specs.Sheet.{Contents, contentsOf, withoutEmpty, encode}
 use Rattle.sheet.specs.Reading.{decode, said, salvage, rescued}
 use Rattle.sheet.specs.Calls.{sheetRefusals, salvageRefusals, reportOf}
 use Rattle.sheet_read.specs.Filling.{filling}
+use Rattle.card.specs.Card.{cardOf, encodeCard, listOn}
+use Rattle.card.specs.Reading.{decodeCard, saidCard}
+use Rattle.card.specs.Calls.{cardRefusals}
 use Rattle.sheet_read.specs.declared.Salvaged.{Salvaged}
 use Rattle.answers.specs.declared.Answer.{Answer}
 use Rattle.answers.specs.Answers.{reply}
@@ -108,6 +111,26 @@ salvaging s T =
     (length (withoutEmpty (rescued (salvage s) .kept) .kits))
     (filling (withoutEmpty (rescued (salvage s) .kept)) T)
 
+-- [10.18] "Write a card for a held list, value the bytes": "those of finding a list, then 12 with the bytes needed"
+unfoldable pub writingCard : List ℕ → Tables → List ℕ → Plan (List ℕ)
+writingCard l T o =
+    setDown (lentList T l ++ missingRefusals (units l) (T .nodes)) (encodeCard (cardOf (partsOf (T .register)) l (tagOf T l))) o
+
+-- [12.27] the list that a card says in a catalogue, and its tag
+abbrev pub listSaid : List ℕ → Tables → List ℕ
+listSaid s T = listOn (partsOf (T .register)) (saidCard (decodeCard s))
+
+abbrev pub tagSaid : List ℕ → ℕ
+tagSaid s = saidCard (decodeCard s) .tag
+
+-- [10.19] "read a card into the index, value the nodes taken": "1 and 2 for the tables, then 13 .., then 11 .., then insertion's 9, 10 and 12", and 19
+-- "on .. reading its card, after 7 and before 9"
+unfoldable pub readingCard : List ℕ → Tables → Plan Tables
+readingCard s T =
+    plan (lentBoth T ++ (cardRefusals (partsOf (T .register)) s ++ entryRefusals (units (listSaid s T)) (tagSaid s) (T .nodes)))
+    (lacks (T .nodes) 0 (units (listSaid s T)))
+    (tables (T .register) (enter (T .nodes) (units (listSaid s T)) (tagSaid s)))
+
 -- What a call that may write the tables promises of its answer and of the tables R′ and N′ afterwards
 abbrev pub Leaves : (Tables → Plan Tables) → List ℕ → List ℕ → Answer → List ℕ → List ℕ → Type 0
 Leaves call R N a R′ N′ = Promise (call (tables R N)) (tables R N) (reply a) (tables R′ N′)
@@ -135,7 +158,8 @@ pub data Call : Type 0 where
   allWithin allContaining : List ℕ → List ℕ → Call
   allAlmost : ℕ → List ℕ → Both → Call
   turnWithin turnContaining : List ℕ → Bookmark → Call
-  writeSheet readSheet salvageSheet : List ℕ → Call
+  writeSheet readSheet salvageSheet readCard : List ℕ → Call
+  writeCard : List ℕ → List ℕ → Call
 
 -- a call on the register alone
 abbrev pub onRegister : Tables → Plan (List ℕ) → Plan Tables
@@ -164,3 +188,5 @@ planOf (turnContaining l b) T = apart T (turning isContaining l T b)
 planOf (writeSheet o) T = apart T (writing T o)
 planOf (readSheet s) T = reading s T
 planOf (salvageSheet s) T = salvaging s T
+planOf (writeCard l o) T = apart T (writingCard l T o)
+planOf (readCard s) T = readingCard s T

@@ -6,7 +6,7 @@ ghost use Rattle.questions.specs.Questions.{isWithin, isContaining};
 ghost use Rattle.ground.specs.Tables.{tables};
 ghost use Rattle.answers.specs.Answers.{reply};
 ghost use Rattle.catalogue.specs.Calls.{emptying, inserting, finding, deleting, counting, anyKit, allKits, almostKits, writing, reading};
-ghost use Rattle.catalogue.specs.Calls.{Leaves, Sets, Turns, Rescues};
+ghost use Rattle.catalogue.specs.Calls.{writingCard, readingCard, Leaves, Sets, Turns, Rescues};
 use answers::Answer;
 use answers::refused;
 use pages::Bookmark;
@@ -203,4 +203,26 @@ pub fn salvage(reg: &mut [u8], nodes: &mut [u16], s: &[u8]) -> Salvaged
         };
     }
     sheet_read::salvage(reg, nodes, s)
+}
+
+// Request 5, "Write a card for a held list, value the bytes": at the start of the output.
+pub fn write_card(reg: &[u8], nodes: &[u16], list: &[u16], out: &mut [u8]) -> Answer
+    ensures { λ r. ⌜ Sets (writingCard (now (list .entry)) (tables (now (reg .entry)) (now (nodes .entry)))) (now (out .entry)) r (now (out .exit)) ⌝ }
+{
+    let lent = check_tables(reg, nodes);
+    if refused(lent) {
+        return lent;
+    }
+    sound::write_card(reg, nodes, list, out)
+}
+
+// Request 5, "read a card into the index, value the nodes taken".
+pub fn read_card(reg: &[u8], nodes: &mut [u16], s: &[u8]) -> Answer
+    ensures { λ r. ⌜ Leaves (readingCard (now (s .entry))) (now (reg .entry)) (now (nodes .entry)) r (now (reg .entry)) (now (nodes .exit)) ⌝ }
+{
+    let lent = check_tables(reg, nodes);
+    if refused(lent) {
+        return lent;
+    }
+    sound::read_card(reg, nodes, s)
 }

@@ -6,9 +6,11 @@ ghost use Rattle.questions.specs.Questions.{isWithin, isContaining};
 ghost use Rattle.ground.specs.Tables.{tables};
 ghost use Rattle.tables.specs.Inner.{SoundTables};
 ghost use Rattle.answers.specs.Answers.{reply};
-ghost use Rattle.catalogue.specs.Calls.{inserting, finding, deleting, counting, anyKit, allKits, almostKits, writing, Leaves, Sets, Turns};
+ghost use Rattle.catalogue.specs.Calls.{inserting, finding, deleting, counting, anyKit, allKits, almostKits, writing, writingCard, readingCard};
+ghost use Rattle.catalogue.specs.Calls.{Leaves, Sets, Turns};
 use answers::Answer;
 use answers::refused;
+use answers::reply_of;
 use ground::wide16;
 use pages::Bookmark;
 use pages::Page;
@@ -44,7 +46,7 @@ pub fn find(reg: &[u8], nodes: &[u16], list: &[u16]) -> Answer
         return typed;
     }
     if !kits::has_room(list) {
-        return Answer::NotHeld;
+        return Answer::NotHeld(0);
     }
     index::find(nodes, kits::row_of(list))
 }
@@ -59,7 +61,7 @@ pub fn delete(reg: &[u8], nodes: &mut [u16], list: &[u16]) -> Answer
         return typed;
     }
     if !kits::has_room(list) {
-        return Answer::NotHeld;
+        return Answer::NotHeld(0);
     }
     index::delete(nodes, kits::row_of(list))
 }
@@ -201,4 +203,32 @@ pub fn write_sheet(reg: &[u8], nodes: &[u16], out: &mut [u8]) -> Answer
     ensures { λ r. ⌜ Sets (writing (tables (now (reg .entry)) (now (nodes .entry)))) (now (out .entry)) r (now (out .exit)) ⌝ }
 {
     sheet_write::write_sheet(reg, nodes, out)
+}
+
+// Writes the card of a held list at the start of the output: the bytes written. "writing has those of finding a list, then 12 with the bytes needed".
+pub fn write_card(reg: &[u8], nodes: &[u16], list: &[u16], out: &mut [u8]) -> Answer
+    requires { ⌜ SoundTables (tables (now reg) (now nodes)) ⌝ }
+    ensures { λ r. ⌜ Sets (writingCard (now (list .entry)) (tables (now (reg .entry)) (now (nodes .entry)))) (now (out .entry)) r (now (out .exit)) ⌝ }
+{
+    let found = find(reg, nodes, list);
+    if refused(found) {
+        return found;
+    }
+    let tag = reply_of(found).value as u16;
+    card_write::write_card(reg, list, tag, out)
+}
+
+// Reads a card into the index: the nodes newly taken. "13 with the start of the first faulty item .., then 11 for an unregistered number, value its
+// line, then insertion's 9, 10 and 12", and 19.
+pub fn read_card(reg: &[u8], nodes: &mut [u16], s: &[u8]) -> Answer
+    requires { ⌜ SoundTables (tables (now reg) (now nodes)) ⌝ }
+    ensures { λ r. ⌜ Leaves (readingCard (now (s .entry))) (now (reg .entry)) (now (nodes .entry)) r (now (reg .entry)) (now (nodes .exit)) ⌝ }
+{
+    let read = card_read::read_card(reg, s);
+    let told = read.answer;
+    if refused(told) {
+        return told;
+    }
+    let row = read.row;
+    index::insert(nodes, row, read.tag)
 }

@@ -12,9 +12,10 @@ use Rattle.ground.specs.Laid.{laid}
 use Rattle.ground.specs.Calls.{Case, given, decide, answer, leaves, memory, withRoom, setDown}
 use Rattle.ground.proofs.Calls.{decide-behind}
 use Rattle.kits.specs.Kits.{Within, units, listFaults}
-use Rattle.nodes.specs.Held.{Kit, inOrder, tagsOf, firstTag}
+use Rattle.nodes.specs.Held.{Kit, comesBefore, inOrder, tagsOf, firstTag}
 use Rattle.nodes.proofs.Sorted.{keep-mem, mem-keep, rising-keep}
-use Rattle.nodes.proofs.Listing.{order-mem, mem-order, order-rises}
+use Rattle.nodes.proofs.Listing.{order-rises}
+use Rattle.nodes.proofs.Ordered.{mem-order, order-mem}
 use Rattle.nodes.proofs.Units.{listed-tagged}
 use Rattle.questions.specs.Questions.{isWithin, isContaining, fitting, anyOf, allOf}
 use Rattle.sheet.specs.Sheet.{Contents}
@@ -34,8 +35,8 @@ module _ (question : Question) (Asks : List ℕ → Kit → Type 0) (asks : (u :
   pub answers-exactly : (k : Kit) → List·Memᴰ k (answering question l m) ↔ (List·Memᴰ k (m .kits) × Asks (units l) k)
   unfolding answering
   answers-exactly k = (
-    λ i. let h = keep-mem (question (units l)) k (inOrder (m .kits)) i in (order-mem k (m .kits) (h .0), asks (units l) k .0 (h .1)),
-    λ h. mem-keep (question (units l)) k (inOrder (m .kits)) (asks (units l) k .1 (h .1)) (mem-order k (m .kits) (h .0)),
+    λ i. let h = keep-mem (question (units l)) k (inOrder (m .kits)) i in (order-mem comesBefore k (m .kits) (h .0), asks (units l) k .0 (h .1)),
+    λ h. mem-keep (question (units l)) k (inOrder (m .kits)) (asks (units l) k .1 (h .1)) (mem-order comesBefore k (m .kits) (h .0)),
   )
 
 pub answering-fits : AnsweringFits

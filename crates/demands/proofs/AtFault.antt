@@ -23,9 +23,9 @@ use Rattle.nodes.proofs.Sorted.{Every, also}
 use Rattle.index.specs.Index.{entryRefusals, missingRefusals}
 use Rattle.pages.specs.Pages.{turnPage}
 use Rattle.tables.specs.Lent.{partCount, lengths, lentBoth, lentList}
-use Rattle.catalogue.specs.Calls.{Call, planOf, inserting, finding, deleting, counting, anyKit, allKits, almostKits, turning}
+use Rattle.catalogue.specs.Calls.{Call, planOf, inserting, finding, deleting, counting, anyKit, allKits, almostKits, turning, writingCard}
 use Rattle.demands.specs.AtFault.{firstLines, by-half, by-line, LineCharged, SomeLine, TakesList, to-insert, to-find, to-delete, to-count}
-use Rattle.demands.specs.AtFault.{within-any, containing-any, within-all, containing-all, almost-all, within-page, containing-page}
+use Rattle.demands.specs.AtFault.{within-any, containing-any, within-all, containing-all, almost-all, within-page, containing-page, to-write}
 use Rattle.demands.specs.AtFault.{ListExactly}
 use Rattle.demands.proofs.Damaged.{Above, behind-above, tablesThen, wrong}
 
@@ -222,7 +222,7 @@ record ByList (c : Call) (l : List ℕ) (untagged : Bool) (T : Tables) : Type 0 
 
 by-list : (c : Call) (l : List ℕ) (untagged : Bool) (T : Tables) → TakesList l c untagged → ByList c l untagged T
 unfolding decide tablesThen planOf lengths lentBoth lentList inserting entryRefusals finding deleting missingRefusals counting anyKit allKits almostKits
-    turning turnPage setDown setBoth
+    turning turnPage setDown setBoth writingCard
 by-list c l untagged T (to-insert t) =
     record { cases = _; rest = _; above = also refl (also refl (also refl (also refl (also refl sorted.none)))); parted = refl; decided = λ v. refl }
 by-list c l untagged T to-find = record { cases = _; rest = _; above = also refl sorted.none; parted = refl; decided = λ v. refl }
@@ -244,6 +244,13 @@ by-list c l untagged T (almost-all d o) = record {
 }
 by-list c l untagged T (within-page b) = record { cases = _; rest = _; above = also refl sorted.none; parted = refl; decided = λ v. refl }
 by-list c l untagged T (containing-page b) = record { cases = _; rest = _; above = also refl sorted.none; parted = refl; decided = λ v. refl }
+by-list c l untagged T (to-write o) = record {
+  cases = _;
+  rest = _;
+  above = also refl (also refl sorted.none);
+  parted = append-assoc (listFaults (partCount T) l) _ _;
+  decided = λ v. refl;
+}
 
 pub list-exactly : ListExactly
 unfolding answer

@@ -6,6 +6,7 @@ use mathlib.Core.List.{List, [], _∷_, append-nil, List·Memᴰ, List·Memᴰ·
 use Prim.Native.Nat.{ℕ, _+_}
 use native.Mathlib.Omega.{arith}
 use lib.ListN.{length, drop}
+use Rattle.ground.specs.Lists.{orderBy}
 use Rattle.ground.specs.Calls.{answer, decide, done}
 use Rattle.ground.specs.Tables.{Tables}
 use Rattle.ground.proofs.Calls.{decide-behind}
@@ -47,7 +48,7 @@ counts-none r = omega (arith, count-most r [])
 
 -- in listing order a kit more is put at its place
 pub counts-more : CountsMore
-unfolding inOrder
+unfolding orderBy
 counts-more r k ks =
     sym (count-in-order r (k ∷ ks)) ∙ count-put r k (inOrder ks) ∙ ap (λ n. cond (begins r (k .row)) 1 0 + n) (count-in-order r ks)
 

@@ -2,13 +2,13 @@
 use mathlib.Core.Path.{_≡_, refl, sym, ap, subst, _∙_}
 use mathlib.Core.Logic.{_≢_, ⊎-elim}
 use mathlib.Core.Bool.{true, false}
-use mathlib.Core.List.{List, [], _∷_, _++_, List·Memᴰ, List·Memᴰ·not-nil, Memᴰ·cast}
+use mathlib.Core.List.{List, [], _∷_, _++_, List·Memᴰ, List·Memᴰ·not-nil}
 use Prim.Native.Nat.{ℕ, _+_, _*_, _<_}
 use native.Mathlib.Omega.{arith}
 use lib.ListN.{length, replicate, length-replicate}
 use borrow.Author.Tests.{ltb-true, not-false}
 use Rattle.ground.specs.Limits.{twoLimit}
-use Rattle.ground.specs.Lists.{keep}
+use Rattle.ground.specs.Lists.{keep, orderBy}
 use Rattle.ground.specs.Laid.{zeroed}
 use Rattle.ground.specs.Calls.{Case, Reply, done, refused, isRefused, decide, answer, leaves, memory}
 use Rattle.ground.proofs.Laws.{every-at}
@@ -21,9 +21,10 @@ use Rattle.kits.specs.Kits.{units}
 use Rattle.kits.specs.Inner.{GoodRow}
 use Rattle.kits.proofs.Units.{good-row}
 use Rattle.nodes.specs.Nodes.{wordsPerNode, nodesLength}
-use Rattle.nodes.specs.Held.{Kit, putKit, inOrder, dropKit, tagIn, held, someUnit, withUnits, listed, allBeginnings}
+use Rattle.nodes.specs.Held.{Kit, comesBefore, putKit, inOrder, dropKit, tagIn, held, someUnit, withUnits, listed, allBeginnings}
 use Rattle.nodes.proofs.Sorted.{Every, Rising, none, also, ahead, mem-every, allb-mem, rising-keep}
-use Rattle.nodes.proofs.Listing.{Earlier, OtherRow, put-mem, drop-mem, mem-order, tag-in}
+use Rattle.nodes.proofs.Listing.{Earlier, OtherRow, drop-mem, tag-in}
+use Rattle.nodes.proofs.Ordered.{in-order-already, mem-order, put-mem}
 use Rattle.nodes.proofs.Decided.{sound-exactly}
 use Rattle.nodes.proofs.Held.{kit, held-rises, held-rows-differ, held-tagged}
 use Rattle.nodes.proofs.Empty.{zeros-hold-nothing}
@@ -41,6 +42,9 @@ use Rattle.sheet_read.specs.Inner as read
 use Rattle.sheet_read.proofs.Reading as filled
 use Rattle.sheet_read.proofs.Rescued.{kept-fits, salvage-leaves, salvage-has}
 use Rattle.sheet_read.proofs.RoundTrip.{SmallTags, words-small}
+use Rattle.card.specs.Card.{listOn}
+use Rattle.card.specs.Reading.{decodeCard, saidCard}
+use Rattle.card.proofs.Codec.{said-good}
 use Rattle.ground.specs.Tables.{Tables, tables}
 use Rattle.tables.specs.Lent.{lengths}
 use Rattle.tables.specs.Inner.{SoundTables}
@@ -49,11 +53,13 @@ use Rattle.catalogue.proofs.Kept.{done-parts, same-register-length, same-nodes-
 use Rattle.catalogue.proofs.Kept.{empty-sound, register-keeps-sound, insert-keeps-sound, delete-keeps-sound}
 use Rattle.catalogue.specs.Calls.{Call, emptyBoth, registerPart, lookUp, showAt, insertKit, findKit, deleteKit, anyWithin, anyContaining}
 use Rattle.catalogue.specs.Calls.{allWithin, allContaining, allAlmost, writeSheet, readSheet, salvageSheet, planOf, emptying, inserting, finding}
+use Rattle.catalogue.specs.Calls.{listSaid, readCard, readingCard, tagSaid, writeCard}
 use Rattle.catalogue.specs.Calls.{contents, countKits, turnWithin, turnContaining, deleting, counting, anyKit, reading, salvaging}
 use Rattle.demands.specs.Model as demand
-use Rattle.demands.specs.Model.{has, step, model, run, log, TypesSay, Words, Catalogue, Allowed, begun}
+use Rattle.demands.specs.Model.{has, more, step, model, run, log, sheet, torn, card, TypesSay, Words, Catalogue, Allowed, begun}
 use Rattle.demands.specs.Model.{tablesOf, entered}
-use Rattle.demands.proofs.Model.{apart, order-same, dropped-apart, order-dropped}
+use Rattle.demands.proofs.Model.{apart, dropped-apart, order-dropped}
+use Rattle.demands.proofs.AsInsertion.{card-was, card-inserts}
 
 -- tables that are sound and have some contents: their kits are those with a unit, whether one without is held or not
 pub record Brought (T : Tables) (m : Contents) : Type 0 where
@@ -70,13 +76,13 @@ has-its-own T s words =
     record {
       both = s;
       parts = refl;
-      kits = sym (order-same (listed (T .nodes)) e);
+      kits = sym (in-order-already comesBefore e);
       apart = apart e;
       small = words-small (s .sound .shape) words;
     }
 
 nothing-in-order : inOrder [] ≡ []
-unfolding inOrder
+unfolding orderBy
 nothing-in-order = refl
 
 -- a kit without a unit begins nothing
@@ -122,13 +128,13 @@ module _ (l : List ℕ) (t : ℕ) (R N : List ℕ) (m : Contents) (b : Brought (
 
   new-row : (k : Kit) → List·Memᴰ k (m .kits) → units l ≢ k .row
   new-row k i e =
-      let h : List·Memᴰ k (held N) = listed-mem N k .0 (subst (List·Memᴰ k) (sym (b .kits)) (mem-order k (m .kits) i)) .0 in
+      let h : List·Memᴰ k (held N) = listed-mem N k .0 (subst (List·Memᴰ k) (sym (b .kits)) (mem-order comesBefore k (m .kits) i)) .0 in
       let f : tagIn (units l) (held N) ≡ k .tag = ap (λ (r : List ℕ). tagIn r (held N)) e ∙ tag-in k (held N)
       (held-rows-differ (b .both .sound .shape)) h in
       omega (arith, I .accepted .fresh, held-tagged (b .both .sound .shape) k h)
 
   pub now-listed : listed (enter N (units l) t) ≡ inOrder (kit (units l) t ∷ m .kits)
-  unfolding inOrder
+  unfolding orderBy
   now-listed = listed-after-insert (b .both .sound) row (I .some-tag) (I .accepted) (I .some-unit) ∙ ap (putKit (kit (units l) t)) (b .kits)
 
   -- as many nodes are taken as there are beginnings more
@@ -145,7 +151,7 @@ module _ (l : List ℕ) (t : ℕ) (R N : List ℕ) (m : Contents) (b : Brought (
   small-now h k i = ⊎-elim
       (λ (e : k ≡ kit (units l) t). omega (arith, ap (λ (j : Kit). j .tag) e, h))
       (λ j. b .small k j)
-      (put-mem (kit (units l) t) k (held N)
+      (put-mem comesBefore (kit (units l) t) k (held N)
       (subst (List·Memᴰ k) (held-after-insert (b .both .sound) row (I .some-tag) (I .accepted)) i))
 
   inserted : t < twoLimit → Brought (tables R (enter N (units l) t)) (has (m .parts) (kit (units l) t ∷ m .kits))
@@ -226,7 +232,7 @@ module _ (c : Contents) (fits : fitsSheet c ≡ true) (T F : Tables) (H : filled
           sound = rw p (sound-exactly (length (c .parts)) (F .nodes) z .0 (H .nodes-sound));
         };
         parts = p;
-        kits = sym (H .none-empty) ∙ H .kits ∙ sym (order-same (withUnits (c .kits)) in-order);
+        kits = sym (H .none-empty) ∙ H .kits ∙ sym (in-order-already comesBefore in-order);
         apart = apart in-order;
         small = small-tags;
       }
@@ -293,6 +299,14 @@ module _ (s : List ℕ) (T : Tables) (v : ℕ) (h : Bytes s) (e : answer (salvag
   pub rescue-kept : Brought (salvaging s T .after) (withoutEmpty (rescued (salvage s) .kept))
   rescue-kept = filled-in (rescued (salvage s) .kept) rescue-fits T (salvaging s T .after) what-was-rescued (rescue-lengths .0) (rescue-lengths .1)
 
+-- A card read
+card-kept : (s : List ℕ) (T : Tables) (m : Contents) (v : ℕ) → Bytes s → answer (readingCard s T) ≡ done v → Brought T m →
+    Brought (readingCard s T .after) (more m (listOn (m .parts) (saidCard (decodeCard s))) (tagSaid s))
+unfolding readingCard inserting
+card-kept s T m v h e b =
+    subst (λ (ps : List (List ℕ)). Brought (readingCard s T .after) (more m (listOn ps (saidCard (decodeCard s))) (tagSaid s))) (b .parts)
+    (insert-kept (listSaid s T) (tagSaid s) T m v (said-good s h (card-was s T v e .0) .small-tag) (card-inserts s T v e) b)
+
 pub done-keeps : (c : Call) (T : Tables) (m : Contents) (v : ℕ) → TypesSay c → answer (planOf c T) ≡ done v → Brought T m →
     Brought (planOf c T .after) (demand.accepted c m)
 unfolding planOf demand.accepted answer lookingUp showing finding counting anyKit
@@ -312,8 +326,10 @@ done-keeps (allAlmost d l o) T m v y e b = b
 done-keeps (turnWithin l k) T m v y e b = b
 done-keeps (turnContaining l k) T m v y e b = b
 done-keeps (writeSheet o) T m v y e b = b
-done-keeps (readSheet s) T m v y e b = read-kept s T v (y .sheet s refl) e
-done-keeps (salvageSheet s) T m v y e b = rescue-kept s T v (y .torn-sheet s refl) e
+done-keeps (readSheet s) T m v y e b = read-kept s T v (y .bytes s sheet) e
+done-keeps (salvageSheet s) T m v y e b = rescue-kept s T v (y .bytes s torn) e
+done-keeps (writeCard l o) T m v y e b = b
+done-keeps (readCard s) T m v y e b = card-kept s T m v (y .bytes s card) e b
 
 -- A call, done or refused
 pub call-keeps : (c : Call) (T : Tables) (m : Contents) → TypesSay c → Brought T m →
@@ -344,12 +360,7 @@ begun-empty a h =
     (room-fits (a .room) N (h .some-node) (h .few-nodes) (length-replicate {A = ℕ} (a .room * wordsPerNode) 0))))
 
 pub all-typed : (a : Catalogue) → Allowed a → Every TypesSay (a .calls)
-all-typed a h =
-    mem-every (a .calls) (λ c m. record {
-      tag = λ l t e. h .tags l t (Memᴰ·cast e m);
-      sheet = λ s e. h .sheets s (Memᴰ·cast e m);
-      torn-sheet = λ s e. h .torn-sheets s (Memᴰ·cast e m);
-    })
+all-typed a h = mem-every (a .calls) (h .typed)
 
 -- The law: the tables of a catalogue are sound and have what its accepted calls left.
 pub brought : (a : Catalogue) → Allowed a → Brought (tablesOf a) (entered a)

@@ -3,8 +3,8 @@ use mathlib.Core.Path.{_≡_, ap}
 use mathlib.Core.List.{List, _∷_}
 use native.Mathlib.Omega.{arith}
 use lib.ListN.{length}
-use Rattle.nodes.specs.Held.{Kit, inOrder, allBeginnings}
-use Rattle.nodes.proofs.Listing.{order-mem, mem-order}
+use Rattle.nodes.specs.Held.{Kit, comesBefore, inOrder, allBeginnings}
+use Rattle.nodes.proofs.Ordered.{mem-order, order-mem}
 use Rattle.nodes.proofs.Held.{kit}
 use Rattle.nodes.proofs.Beginnings.{nodes-used}
 use Rattle.index_counts.proofs.Filled.{more-beginnings}
@@ -17,7 +17,7 @@ use Rattle.demands.proofs.Brought.{brought, listed-beginnings, now-list
 -- the order of the kits does not matter, and a kit without a unit begins nothing
 pub as-many : (ks : List Kit) → length (allBeginnings (inOrder ks)) ≡ length (allBeginnings ks)
 as-many ks =
-    omega (arith, more-beginnings (inOrder ks) ks (λ k m. order-mem k ks m), more-beginnings ks (inOrder ks) (λ k m. mem-order k ks m))
+    omega (arith, more-beginnings (inOrder ks) ks (λ k m. order-mem comesBefore k ks m), more-beginnings ks (inOrder ks) (λ k m. mem-order comesBefore k ks m))
 
 pub nodes-counted : NodesCounted
 nodes-counted a h =

@@ -10,7 +10,7 @@ use borrow.Author.Tests.{ltb-true}
 use Rattle.ground.specs.Calls.{Case, given, Reply, refused, numberOf, decide, answer, setDown, setBoth}
 use Rattle.ground.proofs.Laws.{by-cond}
 use Rattle.ground.specs.Tables.{Tables}
-use Rattle.register.specs.Register.{registerLength, registerSound}
+use Rattle.register.specs.Register.{partsOf, registerLength, registerSound}
 use Rattle.register.specs.Calls.{lentRegister, numberRefusals, registering, lookingUp, showing}
 use Rattle.kits.specs.Kits.{lineFaults, linesFaults, listFaults}
 use Rattle.nodes.specs.Nodes.{nodesLength}
@@ -19,10 +19,14 @@ use Rattle.nodes.proofs.Sorted.{Every, none, also, every-append}
 use Rattle.index.specs.Index.{entryRefusals, missingRefusals}
 use Rattle.pages.specs.Pages.{turnPage}
 use Rattle.sheet.specs.Calls.{sheetRefusals, roomRefusals, salvageRefusals}
+use Rattle.card.specs.Card.{NamedLine}
+use Rattle.card.specs.Reading.{decodeCard, saidCard}
+use Rattle.card.specs.Calls.{cardRefusals, unknownRefusals}
 use Rattle.tables.specs.Lent.{partCount, lengths, lentBoth, lentList}
 use Rattle.catalogue.specs.Calls.{Call, emptyBoth, registerPart, lookUp, showAt, insertKit, findKit, deleteKit, anyWithin, anyContaining}
 use Rattle.catalogue.specs.Calls.{allWithin, allContaining, allAlmost, writeSheet, readSheet, salvageSheet, planOf, emptying, inserting, finding}
 use Rattle.catalogue.specs.Calls.{countKits, turnWithin, turnContaining, deleting, counting, anyKit, allKits, almostKits, turning, writing, reading, salvaging}
+use Rattle.catalogue.specs.Calls.{readCard, readingCard, writeCard, writingCard}
 use Rattle.demands.specs.Demand1.{TablesAsked, theRegister, theLengths, bothTables, asksOf, LengthWrong, TableUnsound, OneExactly, TwoExactly}
 
 ------------------------------------------------------------------------
@@ -80,6 +84,11 @@ list-above : (n : ℕ) (l : List ℕ) → Every (Above 2) (listFaults n l)
 unfolding listFaults
 list-above n l = also refl (lines-above n 0 1 l)
 
+unknown-above : (ps : List (List ℕ)) (k : ℕ) (xs : List NamedLine) → Every (Above 2) (unknownRefusals ps k xs)
+unfolding unknownRefusals
+unknown-above ps k [] = none
+unknown-above ps k (x ∷ xs) = also refl (unknown-above ps (suc k) xs)
+
 -- what a call finds of the tables, right where it does not ask
 nodes-fit : TablesAsked → Tables → Bool
 nodes-fit theRegister T = true
@@ -116,7 +125,7 @@ record Fronted (c : Call) (T : Tables) : Type 0 where
 fronted : (c : Call) (T : Tables) → Fronted c T
 unfolding planOf what-is-asked asksOf lentRegister lengths lentBoth lentList emptying registering numberRefusals lookingUp showing inserting
     entryRefusals finding deleting missingRefusals counting anyKit allKits almostKits setBoth turning turnPage writing setDown reading
-    sheetRefusals roomRefusals salvaging salvageRefusals
+    sheetRefusals roomRefusals salvaging salvageRefusals writingCard readingCard cardRefusals
 fronted emptyBoth T = record { rest = []; cases = refl; above = none }
 fronted (registerPart n) T = record { rest = _; cases = refl; above = also refl (also refl (also refl (also refl none))) }
 fronted (lookUp n) T = record { rest = _; cases = refl; above = also refl (also refl none) }
@@ -143,6 +152,17 @@ fronted (turnContaining l b) T = record { rest = _; cases = refl; above = every-
 fronted (writeSheet o) T = record { rest = _; cases = refl; above = also refl none }
 fronted (readSheet s) T = record { rest = _; cases = refl; above = also refl (also refl (also refl none)) }
 fronted (salvageSheet s) T = record { rest = _; cases = refl; above = also refl (also refl (also refl none)) }
+fronted (writeCard l o) T = record {
+  rest = _;
+  cases = refl;
+  above = every-append (every-append (list-above (partCount T) l) (also refl none)) (also refl none);
+}
+fronted (readCard s) T = record {
+  rest = _;
+  cases = refl;
+  above = also refl (every-append (unknown-above (partsOf (T .register)) 1 (saidCard (decodeCard s) .lines))
+      (also refl (also refl (also refl (also refl none)))));
+}
 
 ------------------------------------------------------------------------
 -- The statements

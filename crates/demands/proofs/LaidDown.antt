@@ -9,16 +9,21 @@ use Rattle.ground.specs.Lists.{anyb}
 use Rattle.ground.specs.Calls.{Case, Reply, refused, numberOf, decide, answer, setDown, setBoth}
 use Rattle.ground.specs.Tables.{Tables}
 use Rattle.ground.proofs.Laws.{by-cond}
+use Rattle.register.specs.Register.{partsOf}
 use Rattle.register.specs.Calls.{lentRegister, numberRefusals, registering, lookingUp, showing}
 use Rattle.kits.specs.Kits.{lineFaults, linesFaults, listFaults}
 use Rattle.nodes.proofs.Sorted.{Every, none, also, every-append}
 use Rattle.index.specs.Index.{entryRefusals, missingRefusals}
 use Rattle.pages.specs.Pages.{turnPage}
 use Rattle.sheet.specs.Calls.{sheetRefusals, roomRefusals, salvageRefusals}
+use Rattle.card.specs.Card.{NamedLine}
+use Rattle.card.specs.Reading.{decodeCard, saidCard}
+use Rattle.card.specs.Calls.{cardRefusals, unknownRefusals}
 use Rattle.tables.specs.Lent.{partCount, lengths, lentBoth, lentList}
 use Rattle.catalogue.specs.Calls.{Call, emptyBoth, registerPart, lookUp, showAt, insertKit, findKit, deleteKit, anyWithin, anyContaining}
 use Rattle.catalogue.specs.Calls.{allWithin, allContaining, allAlmost, writeSheet, readSheet, salvageSheet, planOf, emptying, inserting, finding}
 use Rattle.catalogue.specs.Calls.{countKits, turnWithin, turnContaining, deleting, counting, anyKit, allKits, almostKits, turning, writing, reading, salvaging}
+use Rattle.catalogue.specs.Calls.{readCard, readingCard, writeCard, writingCard}
 use Rattle.demands.specs.Demand1.{numbersGiven, NumbersLaidDown}
 
 -- its number is among some
@@ -45,11 +50,18 @@ module _ (ns : List ℕ) (four : anyb (eqb 4) ns ≡ true) (five : anyb (eqb 5) 
   unfolding listFaults
   list-in n l = also four (lines-in n 0 1 l)
 
+-- and of a card's numbers, where 11 is
+pub unknown-in : (ns : List ℕ) → anyb (eqb 11) ns ≡ true → (ps : List (List ℕ)) (k : ℕ) (xs : List NamedLine) →
+    Every (NumberIn ns) (unknownRefusals ps k xs)
+unfolding unknownRefusals
+unknown-in ns eleven ps k [] = none
+unknown-in ns eleven ps k (x ∷ xs) = also eleven (unknown-in ns eleven ps (suc k) xs)
+
 -- call by call
 cases-in : (c : Call) (T : Tables) → Every (NumberIn (numbersGiven c)) (planOf c T .cases)
 unfolding anyb numbersGiven planOf lentRegister lengths lentBoth lentList emptying registering numberRefusals lookingUp showing inserting
     entryRefusals finding deleting missingRefusals counting anyKit allKits almostKits setBoth turning turnPage writing setDown reading
-    sheetRefusals roomRefusals salvaging salvageRefusals
+    sheetRefusals roomRefusals salvaging salvageRefusals writingCard readingCard cardRefusals
 cases-in emptyBoth T = also refl (also refl none)
 cases-in (registerPart n) T = also refl (also refl (also refl (also refl (also refl (also refl none)))))
 cases-in (lookUp n) T = also refl (also refl (also refl (also refl none)))
@@ -77,6 +89,11 @@ cases-in (turnContaining l b) T =
 cases-in (writeSheet o) T = also refl (also refl (also refl (also refl (also refl none))))
 cases-in (readSheet s) T = also refl (also refl (also refl (also refl (also refl none))))
 cases-in (salvageSheet s) T = also refl (also refl (also refl (also refl (also refl none))))
+cases-in (writeCard l o) T = also refl (also refl (also refl (also refl
+    (every-append (every-append (list-in (numbersGiven (writeCard l o)) refl refl refl (partCount T) l) (also refl none)) (also refl none)))))
+cases-in (readCard s) T = also refl (also refl (also refl (also refl (also refl (every-append
+    (unknown-in (numbersGiven (readCard s)) refl (partsOf (T .register)) 1 (saidCard (decodeCard s) .lines))
+    (also refl (also refl (also refl (also refl none)))))))))
 
 pub numbers-laid-down : NumbersLaidDown
 unfolding answer

@@ -2,6 +2,7 @@
 pub mod Model
 pub mod Refusals
 pub mod Questions
+pub mod AsInsertion
 pub mod Brought
 pub mod Sizes
 pub mod NeverEmpty
@@ -25,3 +26,4 @@ pub mod Before
 pub mod Versions
 pub mod Torn
 pub mod Rescue
+pub mod Cards

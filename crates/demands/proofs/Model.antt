@@ -6,19 +6,16 @@ use Prim.Native.Nat.{ℕ, _<_}
 use native.Mathlib.Omega.{arith}
 use Rattle.ground.specs.Lists.{eqList}
 use Rattle.ground.proofs.Laws.{by-cond, eqList-refl, eqList-true}
-use Rattle.nodes.specs.Held.{Kit, inOrder, dropKit, tagIn}
+use Rattle.nodes.specs.Held.{Kit, comesBefore, inOrder, dropKit, tagIn}
 use Rattle.nodes.proofs.Lists.{never, zero-or}
 use Rattle.nodes.proofs.Sorted.{Every, Rising, none, also, ahead, every-mem, rising-weaken}
-use Rattle.nodes.proofs.Listing.{Earlier, OtherRow, listing-same, earlier-other, order-mem, mem-order, order-rises, drop-rises}
+use Rattle.nodes.proofs.Listing.{Earlier, OtherRow, listing-same, earlier-other, order-rises, drop-rises}
+use Rattle.nodes.proofs.Ordered.{mem-order, order-mem}
 use Rattle.nodes.proofs.Listing.{drop-mem, drop-keep, tag-in, tag-from}
 
 -- kits in listing order have different rows
 pub apart : {ks : List Kit} → Rising Earlier ks → Rising OtherRow ks
 apart s = rising-weaken earlier-other s
-
--- kits that are in listing order already
-pub order-same : (ks : List Kit) → Rising Earlier ks → inOrder ks ≡ ks
-order-same ks s = listing-same (order-rises (apart s)) s (λ k m. order-mem k ks m) (λ k m. mem-order k ks m)
 
 -- Taking a kit out of a list in any order
 module _ (r : List ℕ) where
@@ -49,8 +46,8 @@ module _ (r : List ℕ) where
   order-dropped ks s =
       let o = order-rises s in
       listing-same (order-rises (dropped-apart ks s)) (drop-rises r (inOrder ks) o)
-      (λ k m. let i = dropped-mem k ks s (order-mem k (dropKit r ks) m) in drop-keep r k (inOrder ks) (i .1) (mem-order k ks (i .0)))
-      (λ k m. let i = drop-mem r k (inOrder ks) o m in mem-order k (dropKit r ks) (drop-keep r k ks (i .1) (order-mem k ks (i .0))))
+      (λ k m. let i = dropped-mem k ks s (order-mem comesBefore k (dropKit r ks) m) in drop-keep r k (inOrder ks) (i .1) (mem-order comesBefore k ks (i .0)))
+      (λ k m. let i = drop-mem r k (inOrder ks) o m in mem-order comesBefore k (dropKit r ks) (drop-keep r k ks (i .1) (order-mem comesBefore k ks (i .0))))
 
 -- the tag of a row does not depend on the order
 pub tag-order : (r : List ℕ) (ks : List Kit) → Rising OtherRow ks → tagIn r (inOrder ks) ≡ tagIn r ks
@@ -62,7 +59,7 @@ tag-order r ks s = ⊎-elim absent present (zero-or (tagIn r ks))
     present : 0 < tagIn r ks → tagIn r (inOrder ks) ≡ tagIn r ks
     present h =
         let f = tag-from r ks (λ z. omega arith) in
-        let t = tag-in (f .0) (inOrder ks) o (mem-order (f .0) ks (f .1)) in
+        let t = tag-in (f .0) (inOrder ks) o (mem-order comesBefore (f .0) ks (f .1)) in
         ap (λ q. tagIn q (inOrder ks)) (sym (f .2)) ∙ t ∙ f .3
 
     absent : tagIn r ks ≡ 0 → tagIn r (inOrder ks) ≡ tagIn r ks
@@ -71,7 +68,7 @@ tag-order r ks s = ⊎-elim absent present (zero-or (tagIn r ks))
         other : 0 < tagIn r (inOrder ks) → tagIn r (inOrder ks) ≡ tagIn r ks
         other g =
             let f = tag-from r (inOrder ks) (λ z. omega arith) in
-            let t = tag-in (f .0) ks s (order-mem (f .0) ks (f .1)) in
+            let t = tag-in (f .0) ks s (order-mem comesBefore (f .0) ks (f .1)) in
             sym (f .3) ∙ sym t ∙ ap (λ q. tagIn q ks) (f .2)
 
 -- Kits in listing order, each with a tag, are determined by the tag of each row

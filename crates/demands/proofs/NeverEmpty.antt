@@ -1,5 +1,5 @@
--- No kit without a unit is ever held: none is inserted, and reading and salvage drop it.
-use mathlib.Core.Path.{_≡_, refl, sym, ap, subst, _∙_}
+-- No kit without a unit is ever held: none is inserted or read from a card, and reading and salvage drop it.
+use mathlib.Core.Path.{_≡_, sym, ap, subst, _∙_}
 use mathlib.Core.Bool.{true}
 use mathlib.Core.List.{List, [], _∷_}
 use Prim.Native.Nat.{ℕ, _*_}
@@ -20,10 +20,11 @@ use Rattle.sheet.specs.Sheet.{Contents}
 use Rattle.tables.specs.Lent.{partCount}
 use Rattle.catalogue.specs.Calls.{Call, emptyBoth, registerPart, lookUp, showAt, insertKit, findKit, deleteKit, anyWithin, anyContaining}
 use Rattle.catalogue.specs.Calls.{allWithin, allContaining, allAlmost, writeSheet, readSheet, salvageSheet, planOf, emptying, inserting, finding}
-use Rattle.catalogue.specs.Calls.{countKits, turnWithin, turnContaining, deleting, counting, anyKit}
+use Rattle.catalogue.specs.Calls.{countKits, turnWithin, turnContaining, deleting, counting, anyKit, listSaid, readCard, readingCard, tagSaid, writeCard}
 use Rattle.catalogue.proofs.Kept.{kept-by, zeros-again, insertion, delete-held}
-use Rattle.demands.specs.Model.{has, step, run, TypesSay, Catalogue, Allowed, begun, tablesOf}
+use Rattle.demands.specs.Model.{has, step, run, sheet, torn, TypesSay, Catalogue, Allowed, begun, tablesOf}
 use Rattle.demands.specs.Demand2.{NeverEmpty}
+use Rattle.demands.proofs.AsInsertion.{card-inserts}
 use Rattle.demands.proofs.Brought.{Brought, what-was-read, what-was-rescued, call-keeps, begun-empty, all-typed, zeros-list-nothing}
 
 -- all that is held is listed
@@ -53,7 +54,7 @@ delete-lists l T m v e b all =
 
 done-lists : (c : Call) (T : Tables) (m : Contents) (v : ℕ) → TypesSay c → answer (planOf c T) ≡ done v → Brought T m → AllListed T →
     AllListed (planOf c T .after)
-unfolding planOf answer emptying registering lookingUp showing finding counting anyKit
+unfolding planOf answer emptying registering lookingUp showing inserting finding counting anyKit readingCard
 done-lists emptyBoth T m v y e b all = zeros-list-all (T .nodes) (b .both .sized)
 done-lists (registerPart n) T m v y e b all = all
 done-lists (lookUp n) T m v y e b all = all
@@ -70,8 +71,10 @@ done-lists (allAlmost d l o) T m v y e b all = all
 done-lists (turnWithin l k) T m v y e b all = all
 done-lists (turnContaining l k) T m v y e b all = all
 done-lists (writeSheet o) T m v y e b all = all
-done-lists (readSheet s) T m v y e b all = what-was-read s T v (y .sheet s refl) e .none-empty
-done-lists (salvageSheet s) T m v y e b all = what-was-rescued s T v (y .torn-sheet s refl) e .none-empty
+done-lists (readSheet s) T m v y e b all = what-was-read s T v (y .bytes s sheet) e .none-empty
+done-lists (salvageSheet s) T m v y e b all = what-was-rescued s T v (y .bytes s torn) e .none-empty
+done-lists (writeCard l o) T m v y e b all = all
+done-lists (readCard s) T m v y e b all = insert-lists (listSaid s T) (tagSaid s) T m v (card-inserts s T v e) b all
 
 calls-list : (cs : List Call) (T : Tables) (m : Contents) → Every TypesSay cs → Brought T m → AllListed T → AllListed (run cs T)
 unfolding run

@@ -1,15 +1,15 @@
 -- Request 14: what is answered of the empty list, of tables that hold an empty kit, and of tables that were not begun empty.
 use mathlib.Core.Path.{_≡_, refl, sym, ap, subst, _∙_}
-use mathlib.Core.Logic.{_≢_, ⊎-elim}
+use mathlib.Core.Logic.{_≢_}
 use mathlib.Core.Bool.{Bool, true, false, cond, false≢true}
-use mathlib.Core.List.{List, [], _∷_, _++_, List·Memᴰ}
+use mathlib.Core.List.{List, [], _∷_, _++_, append-nil, List·Memᴰ}
 use Prim.Native.Nat.{ℕ, _<_}
 use native.Mathlib.Omega.{arith}
 use lib.ListN.{length}
 use lib.Dec.{eqb}
 use borrow.Author.Tests.{eqb-true, eqb-false, le-ltb, ne-eqb}
 use Rattle.ground.specs.Lists.{anyb, isZero}
-use Rattle.ground.specs.Calls.{Case, given, Reply, done, refused, isRefused, numberOf, valueOf, decide, answer, memory}
+use Rattle.ground.specs.Calls.{Case, given, done, refused, isRefused, numberOf, valueOf, decide, answer, memory}
 use Rattle.ground.specs.Tables.{Tables, tables}
 use Rattle.ground.proofs.Calls.{leaves-done, decide-behind}
 use Rattle.register.specs.Register.{partsOf}
@@ -37,13 +37,13 @@ use Rattle.demands.proofs.Questions.{asked-tables}
 use Rattle.demands.proofs.Brought.{has-its-own, calls-keep}
 use Rattle.demands.proofs.Answers.{has-contents}
 use Rattle.demands.proofs.Beginning.{count-says}
-use Rattle.demands.proofs.LaidDown.{NumberIn, decided-in, list-in}
+use Rattle.demands.proofs.LaidDown.{NumberIn, list-in}
 
 ------------------------------------------------------------------------
 -- 19
 
 -- a refusal with another number than a case has comes from behind it
-pass-one : (c : Case) (cs : List Case) (w n v : ℕ) → c .number ≢ n → decide (c ∷ cs) w ≡ refused n v →
+pub pass-one : (c : Case) (cs : List Case) (w n v : ℕ) → c .number ≢ n → decide (c ∷ cs) w ≡ refused n v →
     (c .test ≡ false) × (decide cs w ≡ refused n v)
 unfolding decide
 pass-one c cs w n v other e = go (c .test) refl e
@@ -63,7 +63,12 @@ pass-all ns (c ∷ cs) ds w n v (also i is) out e =
     let t = a .0 in
     (rw t (b .0), b .1)
 
-both-in : (T : Tables) → Every (NumberIn (1 ∷ 2 ∷ [])) (lentBoth T)
+-- and with one that no case has there is none
+pub not-among : (ns : List ℕ) (cs : List Case) (w n v : ℕ) → Every (NumberIn ns) cs → anyb (eqb n) ns ≡ false → decide cs w ≡ refused n v → ⊥
+unfolding decide
+not-among ns cs w n v is out e = false≢true (ap isRefused (pass-all ns cs [] w n v is out (rw append-nil e) .1))
+
+pub both-in : (T : Tables) → Every (NumberIn (1 ∷ 2 ∷ [])) (lentBoth T)
 unfolding anyb lengths lentBoth
 both-in T = also refl (also refl (also refl (also refl none)))
 
@@ -81,10 +86,7 @@ first-says : (z : Bool) (cs : List Case) (w v : ℕ) → Every (NumberIn (9 ∷ 
     (z ≡ true) × (v ≡ 0)
 unfolding anyb decide
 first-says true cs w v is e = (refl, sym (ap valueOf e))
-first-says false cs w v is e = ⊎-elim
-    (λ (q : numberOf (decide cs w) ≡ 0). absurd (omega (arith, q, ap numberOf e)))
-    (λ q. absurd (false≢true (ap (λ (r : Reply). anyb (eqb (numberOf r)) (9 ∷ 10 ∷ 12 ∷ [])) (sym e) ∙ q)))
-    (decided-in (9 ∷ 10 ∷ 12 ∷ []) cs w is)
+first-says false cs w v is e = absurd (not-among (9 ∷ 10 ∷ 12 ∷ []) cs w 19 v is refl e)
 
 nineteen-only : (l : List ℕ) (t v : ℕ) (T : Tables) → answer (inserting l t T) ≡ refused 19 v → Asked T l × (0 < t) × (l ≡ []) × (v ≡ 0)
 unfolding anyb answer inserting entryRefusals lentList

@@ -4,9 +4,7 @@ use mathlib.Core.Bool.{Bool, true, false, _&&_, cond}
 use mathlib.Core.List.{List, [], _∷_}
 use Prim.Native.Nat.{ℕ, zero, suc, _+_, _*_, _≤_, _<_}
 use native.Mathlib.Omega.{arith}
-use lib.ListN.{length, take, drop, getD}
-use lib.Seq.{length-take-le}
-use lib.Dec.{leb}
+use lib.ListN.{length, drop, getD}
 use borrow.Author.Tests.{leb-true}
 use Rattle.ground.specs.Limits.{twoLimit, mostParts}
 use Rattle.ground.specs.Lists.{eqList, isZero}
@@ -15,65 +13,31 @@ use Rattle.nodes.specs.Held.{Kit}
 use Rattle.sheet.specs.Bytes.{fromBytes, Bytes}
 use Rattle.sheet.specs.Sheet.{Contents, mark}
 use Rattle.sheet.specs.Inner.{Width}
-use Rattle.sheet.specs.Reading.{Item, item, fault, Reading, onward, one, bytes, isVersion, goodPartCount, anyTwo, numberSize, newNumber}
+use Rattle.sheet.specs.Reading.{Item, item, fault, bytes, isVersion, goodPartCount, anyTwo, numberSize, newNumber}
 use Rattle.sheet.specs.Reading.{numbers, recordSize, newKit, kitIn, Run, stop, also, unless, records, Front, front, runOf, whole, decode}
 use Rattle.sheet.specs.Reading.{offset, Salvage, salvaged, salvage, rescued}
-use Rattle.sheet.proofs.Numbers.{bytes-take, bytes-drop, from-less}
+use Rattle.sheet.proofs.Numbers.{from-less}
 use Rattle.sheet.proofs.Widths.{lines-most, version-width}
-
--- a reading that comes at most n bytes far, and what is known of what it read and of the bytes behind
-data Read {A : Type 0} (P : A → List ℕ → Type 0) (n : ℕ) : Item A → Type 0 where
-  read : {a : A} {bs : List ℕ} {o : ℕ} → P a bs → o ≤ n → Read P n (item a bs o)
-  stopped : {o : ℕ} → o ≤ n → Read P n (fault o)
-
-onward-read : {A B : Type 0} {P : A → List ℕ → Type 0} {Q : B → List ℕ → Type 0} {n k : ℕ} {m : Item A} (f : A → Reading B) → Read P n m →
-    n ≤ k → ((a : A) (bs : List ℕ) (o : ℕ) → P a bs → o ≤ n → Read Q k (f a bs o)) → Read Q k (onward m f)
-unfolding onward
-onward-read f (read {a = a} {bs = bs} {o = o} p h) l g = g a bs o p h
-onward-read f (stopped {o = o} h) l g = stopped {o = o} (omega arith)
-
--- an item
-record Whole (size : ℕ) (good : List ℕ → Bool) (b rest : List ℕ) : Type 0 where
-  is-good : good b ≡ true
-  long : length b ≡ size
-  bytes-in : Bytes b
-  bytes-behind : Bytes rest
-
-one-read : (size : List ℕ → ℕ) (good : List ℕ → Bool) (bs : List ℕ) (o n : ℕ) → Bytes bs → o + size bs ≤ n →
-    Read (Whole (size bs) good) n (one size good bs o)
-unfolding one
-one-read size good bs o n h l = go (leb (size bs) (length bs)) refl (good (take (size bs) bs)) refl
-  where
-    go : (x : Bool) → leb (size bs) (length bs) ≡ x → (y : Bool) → good (take (size bs) bs) ≡ y →
-        Read (Whole (size bs) good) n (cond (x && y) (item (take (size bs) bs) (drop (size bs) bs) (o + size bs)) (fault o))
-    go true e true g =
-        read (record {
-          is-good = g;
-          long = length-take-le (size bs) bs (leb-true (size bs) (length bs) e);
-          bytes-in = bytes-take bs
-              (size bs) h;
-          bytes-behind = bytes-drop bs (size bs) h;
-        }) l
-    go true e false g = stopped {o = o} (omega arith)
-    go false e y g = stopped {o = o} (omega arith)
+use Rattle.sheet.proofs.Accepted.{Taken, item-bytes, rest-bytes}
+use Rattle.sheet.proofs.Reach.{Read, read, stopped, Any, onward-read, Took, one-read, bytes-read, offset-within}
 
 -- the numbers: each takes at most 256 bytes
-abbrev Behind : {A : Type 0} → A → List ℕ → Type 0
-Behind a bs = Bytes bs
+abbrev Behind : {A : Type 0} → A → List ℕ → ℕ → Type 0
+Behind a bs o = Bytes bs
 
 numbers-read : (n : ℕ) (seen : List (List ℕ)) (bs : List ℕ) (o : ℕ) → Bytes bs → Read Behind (o + n * 256) (numbers n seen bs o)
 unfolding numbers numberSize
 numbers-read zero seen bs o h = read {o = o} h (omega arith)
 numbers-read (suc n) seen bs o h =
-    onward-read _ (one-read numberSize (newNumber seen) bs o (o + 256) h (omega (arith, h 0))) (omega arith) (λ b rest p w l.
-    onward-read _ (numbers-read n (drop 1 b ∷ seen) rest p (w .bytes-behind)) (omega arith) (λ ns last q v k.
+    onward-read _ (one-read numberSize (newNumber seen) bs o (o + 256) (omega arith) (λ b rest p t. omega (arith, t .next, h 0))) (omega arith)
+    (λ b rest p t l. onward-read _ (numbers-read n (drop 1 b ∷ seen) rest p (rest-bytes t h)) (omega arith) (λ ns last q v k.
     read {o = q} v (omega arith)))
 
 -- the front: mark, version, part count, at most 4,000 numbers, kit count
 abbrev frontMost : ℕ
 frontMost = 1024009
 
-record Announced (f : Front) (bs : List ℕ) : Type 0 where
+record Announced (f : Front) (bs : List ℕ) (o : ℕ) : Type 0 where
   few : f .announced < twoLimit
   behind : Bytes bs
 
@@ -84,12 +48,13 @@ count-few v b e = leb-true (fromBytes b) mostParts (every-at _ 0 e)
 front-read : (s : List ℕ) → Bytes s → Read Announced frontMost (front s 0)
 unfolding front bytes
 front-read s h =
-    onward-read _ (one-read (bytes 3) (eqList mark) s 0 3 h (omega arith)) (omega arith) (λ m r1 o1 w1 l1.
-    onward-read _ (one-read (bytes 2) isVersion r1 o1 5 (w1 .bytes-behind) (omega arith)) (omega arith) (λ v r2 o2 w2 l2.
-    onward-read _ (one-read (bytes 2) (goodPartCount (fromBytes v)) r2 o2 7 (w2 .bytes-behind) (omega arith)) (omega arith) (λ p r3 o3 w3 l3.
-    onward-read _ (numbers-read (fromBytes p) [] r3 o3 (w3 .bytes-behind)) (omega (arith, count-few (fromBytes v) p (w3 .is-good))) (λ ns r4 o4 w4 l4.
-    onward-read _ (one-read (bytes 2) anyTwo r4 o4 frontMost w4 (omega (arith, count-few (fromBytes v) p (w3 .is-good)))) (omega arith) (λ k r5 o5 w5 l5.
-    read {o = o5} (record { few = from-less 2 k (w5 .long) (w5 .bytes-in); behind = w5 .bytes-behind }) l5)))))
+    onward-read _ (bytes-read 3 (eqList mark) s 0 3 (omega arith)) (omega arith) (λ m r1 o1 t1 l1.
+    onward-read _ (bytes-read 2 isVersion r1 o1 5 (omega arith)) (omega arith) (λ v r2 o2 t2 l2.
+    onward-read _ (bytes-read 2 (goodPartCount (fromBytes v)) r2 o2 7 (omega arith)) (omega arith) (λ p r3 o3 t3 l3.
+    let few = count-few (fromBytes v) p (t3 .is-good) in
+    onward-read _ (numbers-read (fromBytes p) [] r3 o3 (rest-bytes t3 (rest-bytes t2 (rest-bytes t1 h)))) (omega arith) (λ ns r4 o4 h4 l4.
+    onward-read _ (bytes-read 2 anyTwo r4 o4 frontMost (omega arith)) (omega arith) (λ k r5 o5 t5 l5.
+    read {o = o5} (record { few = from-less 2 k (t5 .long) (item-bytes t5 h4); behind = rest-bytes t5 h4 }) l5)))))
 
 -- the kit records: each takes at most 768 bytes
 module _ (w : ℕ) (width : Width w) where
@@ -101,11 +66,11 @@ module _ (w : ℕ) (width : Width w) where
   unfolding records unless
   records-far zero parts seen bs o h = omega arith
   records-far (suc n) parts seen bs o h =
-      go (one-read (recordSize w) (newKit w parts seen) bs o (o + 768) h (omega (arith, record-far bs h)))
-      (λ b rest p t l. records-far n parts (kitIn w b ∷ seen) rest p (t .bytes-behind))
+      go (one-read (recordSize w) (newKit w parts seen) bs o (o + 768) (omega arith) (λ b rest p t. omega (arith, t .next, record-far bs h)))
+      (λ b rest p t l. records-far n parts (kitIn w b ∷ seen) rest p (rest-bytes t h))
     where
-      go : {m : Item (List ℕ)} {z : ℕ} → Read (Whole z (newKit w parts seen)) (o + 768) m →
-          ((b rest : List ℕ) (p : ℕ) → Whole z (newKit w parts seen) b rest → p ≤ o + 768 →
+      go : {m : Item (List ℕ)} → Read (Took (recordSize w) (newKit w parts seen) bs o) (o + 768) m →
+          ((b rest : List ℕ) (p : ℕ) → Taken (recordSize w) (newKit w parts seen) bs b rest o p → p ≤ o + 768 →
           records w n parts (kitIn w b ∷ seen) rest p .offset ≤ p + n * 768)
           → unless m (stop (suc n) bs o) (λ b rest p. also (kitIn w b) (records w n parts (kitIn w b ∷ seen) rest p)) .offset ≤ o + suc n * 768
       go (read {a = b} {bs = rest} {o = p} t l) f = omega (arith, f b rest p t l)
@@ -115,38 +80,30 @@ module _ (w : ℕ) (width : Width w) where
 abbrev pub farthest : ℕ
 farthest = 51354889
 
-run-far : (f : Front) (bs : List ℕ) (o : ℕ) → Announced f bs → o ≤ frontMost → runOf f bs o .offset ≤ farthest
+run-far : (f : Front) (bs : List ℕ) (o : ℕ) → Announced f bs o → o ≤ frontMost → runOf f bs o .offset ≤ farthest
 unfolding runOf
 run-far f bs o a l =
     let n = length (f .parts) in
     omega (arith, records-far _ (version-width n) (f .announced) n [] bs o (a .behind), a .few)
 
-abbrev Any : Contents → List ℕ → Type 0
-Any c bs = length bs ≡ length bs
-
 whole-read : (ps : List (List ℕ)) (r : Run) → r .offset ≤ farthest → Read Any farthest (whole ps r)
 unfolding whole
 whole-read ps r h = go (isZero (r .missing) && isZero (length (r .rest)))
   where
-    go : (b : Bool) → Read Any farthest (cond b (item (record { parts = ps; kits = r .kits }) (r .rest) (r .offset)) (fault (r .offset)))
-    go true = read refl h
-    go false = stopped h
+    go : (b : Bool) → Read {A = Contents} Any farthest (cond b (item (record { parts = ps; kits = r .kits }) (r .rest) (r .offset)) (fault (r .offset)))
+    go true = read {o = r .offset} refl h
+    go false = stopped {o = r .offset} h
 
 decode-read : (s : List ℕ) → Bytes s → Read Any farthest (decode s)
 unfolding decode
 decode-read s h = onward-read _ (front-read s h) (omega arith) (λ f bs o w l. whole-read (f .parts) (runOf f bs o) (run-far f bs o w l))
 
-offset-far : {A : Type 0} {P : A → List ℕ → Type 0} {m : Item A} → Read P farthest m → offset m ≤ farthest
-unfolding offset
-offset-far (read p h) = omega arith
-offset-far (stopped h) = h
-
 -- "13's value is the offset where the first faulty item starts"
 pub fault-near : (s : List ℕ) → Bytes s → offset (decode s) ≤ farthest
-fault-near s h = offset-far (decode-read s h)
+fault-near s h = offset-within (decode-read s h)
 
 -- and so of salvage: its faults, where the run stops, and the kits announced
-record Near (x : Salvage) (bs : List ℕ) : Type 0 where
+record Near (x : Salvage) (bs : List ℕ) (o : ℕ) : Type 0 where
   few : x .announced < twoLimit
   near : x .stopped ≤ farthest
 
@@ -157,7 +114,7 @@ salvage-read s h = onward-read _ (front-read s h) (omega arith) (λ f bs o w l.
     read {o = runOf f bs o .offset} (record { few = w .few; near = d }) d)
 
 pub salvage-fault-near : (s : List ℕ) → Bytes s → offset (salvage s) ≤ farthest
-salvage-fault-near s h = offset-far (salvage-read s h)
+salvage-fault-near s h = offset-within (salvage-read s h)
 
 stop-near : {m : Item Salvage} → Read Near farthest m → (rescued m .announced < twoLimit) × (rescued m .stopped ≤ farthest)
 unfolding rescued

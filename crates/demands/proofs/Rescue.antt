@@ -11,11 +11,12 @@ use borrow.Author.Tests.{le-ltb, lt-ltb, ltb-false, ltb-true}
 use Rattle.ground.specs.Lists.{concat}
 use Rattle.ground.specs.Calls.{Plan, plan, Reply, done, refused, decide, answer, memory, numberOf, valueOf}
 use Rattle.ground.specs.Tables.{Tables}
-use Rattle.ground.proofs.Calls.{leaves-done, refusal-keeps, decide-behind}
+use Rattle.ground.proofs.Calls.{done-passes, leaves-done, refusal-keeps, decide-behind}
 use Rattle.register.specs.Register.{registerLength, slotCount}
 use Rattle.nodes.specs.Nodes.{nodesLength, size}
-use Rattle.nodes.specs.Held.{someUnit, withUnits}
+use Rattle.nodes.specs.Held.{comesBefore, someUnit}
 use Rattle.nodes.proofs.Sorted.{rising-keep}
+use Rattle.nodes.proofs.Ordered.{in-order-already}
 use Rattle.sheet.specs.Bytes.{Bytes, two}
 use Rattle.sheet.specs.Sheet.{Contents, withoutEmpty, mark, version, numberItems, recordItems, encode, slotsNeeded, nodesNeeded}
 use Rattle.sheet.specs.Inner.{fitsSheet}
@@ -27,7 +28,7 @@ use Rattle.sheet.proofs.Laws.{decode-encode}
 use Rattle.sheet.proofs.Torn.{salvage-of-fault, salvage-refused, rescued-torn, parted-at-stop, torn-or-whole}
 use Rattle.sheet_read.specs.Filling.{Roomy}
 use Rattle.sheet_read.specs.Inner.{readingInto, salvagingInto}
-use Rattle.sheet_read.proofs.Reading.{contents-had, accepted, fault-exactly}
+use Rattle.sheet_read.proofs.Reading.{contents-had, room-given, fault-exactly}
 use Rattle.sheet_read.proofs.Rescued.{kept-fits, salvage-reads-rest, salvage-of-faultless, salvage-is-reading}
 use Rattle.sheet_faults.specs.Faults.{frontItems, kitItems, widthOf, wholeItems}
 use Rattle.sheet_faults.proofs.Torn.{longest-run, salvaged-at-cut}
@@ -39,7 +40,6 @@ use Rattle.demands.specs.Demand1.{LengthWrong, asksOf, theLengths}
 use Rattle.demands.specs.Rescue.{keptFrom, sheetKept, reportIn, reports, SalvageIsReading, SalvageKeeps, SalvageExactly, SalvageHasKept}
 use Rattle.demands.specs.Rescue.{ThirteenExactly, TwelveExactly, SalvageReports, ReportFits, KeepsLongest, FirstFault}
 use Rattle.demands.specs.Rescue.{CutAnywhere, WrittenAfter, TornNotAccepted}
-use Rattle.demands.proofs.Model.{order-same}
 use Rattle.demands.proofs.Brought.{Brought, sheet-rises, front-faultless, rescue-behind, rescue-fits, rescue-lengths, what-was-rescued, rescue-kept}
 use Rattle.demands.proofs.Damaged.{one-exactly}
 use Rattle.demands.proofs.Sheets.{writes}
@@ -122,19 +122,11 @@ salvage-keeps s T h f =
 
 room-for : (s : List ℕ) (T : Tables) (k : ℕ) (h : Bytes s) (e : answer (salvaging s T) ≡ done k) →
     Roomy (keptFrom s) T × (k ≡ length (withoutEmpty (keptFrom s) .kits))
+unfolding answer salvagingInto salvageRefusals
 room-for s T k h e =
-    let n = front-faultless s T k h e in
-    let d = said-encoded (keptFrom s) (rescue-fits s T k h e) .1 in
     let l = rescue-lengths s T k h e in
-    let a = accepted (sheetKept s) T k (ap answer (sym (salvage-reads-rest s h n T)) ∙ rescue-behind s T k h e) in (
-      record {
-        register-fits = l .0;
-        nodes-fit = l .1;
-        slots = subst (λ (c : Contents). slotsNeeded c ≤ slotCount (T .register)) d (a .slots);
-        nodes = subst (λ (c : Contents). nodesNeeded c ≤ size (T .nodes)) d (a .nodes);
-      },
-      subst (λ (c : Contents). k ≡ length (withoutEmpty c .kits)) d (a .kits),
-    )
+    let r = room-given (keptFrom s) _ _ _ k (done-passes _ _ _ _ (rescue-behind s T k h e) .1) in
+    (record { register-fits = l .0; nodes-fit = l .1; slots = r .0; nodes = r .1 }, r .2)
 
 with-room : (s : List ℕ) (T : Tables) → isFault (front s 0) ≡ false → Roomy (keptFrom s) T →
     answer (salvaging s T) ≡ done (length (withoutEmpty (keptFrom s) .kits))
@@ -311,7 +303,7 @@ written-after s T o k h e r =
     let c : Contents = keptFrom s in
     let fits = rescue-fits s T k h e in
     let q : encode (listedIn (withoutEmpty c)) ≡ encode (withoutEmpty c) = ap encode
-    (ap (has (c .parts)) (order-same (withUnits (c .kits)) (rising-keep someUnit (c .kits) (sheet-rises c fits)))) in
+    (ap (has (c .parts)) (in-order-already comesBefore (rising-keep someUnit (c .kits) (sheet-rises c fits)))) in
     let b : Brought (memory (salvaging s T) T) (withoutEmpty c) = subst (λ (M : Tables). Brought M (withoutEmpty c))
     (sym (rescued-in-place s T k e)) (rescue-kept s T k h e) in
     (rw q at (writes b o (rw q r)), said-encoded (withoutEmpty c) (fits-without c fits) .0)

@@ -15,16 +15,16 @@ use Rattle.ground.proofs.Laid.{laid-front}
 use Rattle.ground.proofs.Calls.{set-down-done, set-down-full, leaves-done, decide-behind}
 use Rattle.ground.proofs.Laws.{le-or}
 use Rattle.kits.specs.Kits.{listOf}
-use Rattle.nodes.specs.Held.{Kit, inOrder, tagIn, someUnit, withUnits, listed, allBeginnings}
+use Rattle.nodes.specs.Held.{Kit, comesBefore, inOrder, tagIn, someUnit, withUnits, listed, allBeginnings}
 use Rattle.nodes.proofs.Sorted.{Every, Rising, ahead, every-mem, mem-every, keep-all, rising-keep}
 use Rattle.nodes.proofs.Listing.{Earlier, order-rises}
 use Rattle.nodes.proofs.Units.{some-unit-is, is-some-unit, no-unit, behind-some-unit, units-no, units-behind, listed-mem, listed-tagged}
+use Rattle.nodes.proofs.Ordered.{in-order-already, order-length}
 use Rattle.sheet.specs.Bytes.{Bytes, inBytes, two}
 use Rattle.sheet.specs.Sheet.{Contents, withoutEmpty, mark, version, numberItems, lineItems, recordItem, recordItems, encodeAs, encode}
 use Rattle.sheet.specs.Inner.{fitsSheet}
 use Rattle.sheet.specs.Reading.{Item, decode, said}
 use Rattle.sheet.proofs.Laws.{decode-encode, encode-injective}
-use Rattle.sheet_write.proofs.Whole.{order-many}
 use Rattle.sheet_read.specs.Filling.{filling, Roomy}
 use Rattle.sheet_read.specs.Inner.{readingInto}
 use Rattle.sheet_read.proofs.Reading.{accepted, contents-had}
@@ -38,7 +38,7 @@ use Rattle.catalogue.proofs.Kept.{done-parts}
 use Rattle.demands.specs.Model.{has, emptyKit, tablesOf, listedIn}
 use Rattle.demands.specs.Demand3.{Writes, Agree, SheetsTell, AnySheetsTell, SheetIsWritten, ReadBack, NoEmpty, LeftOut, SameAgain, NoOther, NoSecond}
 use Rattle.demands.specs.Demand3.{beforeCount, AgainWithout}
-use Rattle.demands.proofs.Model.{HasTag, order-same, tag-order, tags-determine}
+use Rattle.demands.proofs.Model.{HasTag, tag-order, tags-determine}
 use Rattle.demands.proofs.Brought.{Brought, has-its-own, brought, behind-lengths, read-kept, sheet-said, said-rises}
 use Rattle.demands.proofs.Counts.{as-many}
 use Rattle.demands.proofs.Answers.{has-contents, down-answer, down-memory}
@@ -140,7 +140,7 @@ module _ {T U : Tables} {m : Contents} (b : Brought T m) (r : Roomy m U) where
   }
 
   as-many-kits : length (listed (T .nodes)) ≡ length (m .kits)
-  as-many-kits = ap length (b .kits) ∙ order-many (m .kits)
+  as-many-kits = ap length (b .kits) ∙ order-length comesBefore (m .kits)
 
   -- behind the lengths it is the reading that the sheet's own laws speak of
   lengths-pass : decide (lengths U) 0 ≡ done 0
@@ -181,7 +181,7 @@ module _ (s : List ℕ) (T : Tables) (k : ℕ) (h : Bytes s) (e : answer (readin
   ks = said (decode s) .kits
 
   taken-in-order : listedIn (withoutEmpty (said (decode s))) ≡ withoutEmpty (said (decode s))
-  taken-in-order = ap (has (said (decode s) .parts)) (order-same (withUnits ks) (rising-keep someUnit ks (said-rises s T k h e)))
+  taken-in-order = ap (has (said (decode s) .parts)) (in-order-already comesBefore (rising-keep someUnit ks (said-rises s T k h e)))
 
   sheet-again : NoEmpty s → encode (listedIn (withoutEmpty (said (decode s)))) ≡ s
   sheet-again n =

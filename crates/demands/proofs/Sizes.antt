@@ -13,15 +13,17 @@ use Rattle.kits.specs.Kits.{units}
 use Rattle.kits.proofs.Units.{good-row}
 use Rattle.nodes.specs.Nodes.{wordsPerNode, size}
 use Rattle.nodes.proofs.Sorted.{Every, also}
+use Rattle.index_insert.specs.Enter.{enter}
 use Rattle.index.proofs.Kept.{insert-length, delete-length}
 use Rattle.sheet.specs.Sheet.{Contents}
 use Rattle.ground.specs.Tables.{Tables, tables}
 use Rattle.tables.specs.Lent.{partCount}
 use Rattle.catalogue.specs.Calls.{Call, emptyBoth, registerPart, lookUp, showAt, insertKit, findKit, deleteKit, anyWithin, anyContaining}
 use Rattle.catalogue.specs.Calls.{allWithin, allContaining, allAlmost, writeSheet, readSheet, salvageSheet, planOf, emptying, inserting, finding}
-use Rattle.catalogue.specs.Calls.{countKits, turnWithin, turnContaining, deleting, counting, anyKit}
-use Rattle.demands.specs.Model.{has, step, run, TypesSay, Catalogue, Allowed, begun, tablesOf}
+use Rattle.catalogue.specs.Calls.{countKits, turnWithin, turnContaining, deleting, counting, anyKit, listSaid, readCard, readingCard, tagSaid, writeCard}
+use Rattle.demands.specs.Model.{has, step, run, sheet, torn, TypesSay, Catalogue, Allowed, begun, tablesOf}
 use Rattle.catalogue.proofs.Kept.{insertion, delete-held}
+use Rattle.demands.proofs.AsInsertion.{card-inserts}
 use Rattle.demands.proofs.Brought.{Brought, what-was-read, what-was-rescued, call-keeps, begun-empty, all-typed}
 
 -- tables of the same lengths
@@ -40,17 +42,21 @@ register-alike n T v e =
       nodes = refl;
     }
 
+insert-alike : (l : List ℕ) (t : ℕ) (T : Tables) (m : Contents) (v : ℕ) → answer (inserting l t T) ≡ done v → Brought T m →
+    Alike T (tables (T .register) (enter (T .nodes) (units l) t))
+insert-alike l t T m v e b =
+    let i = insertion l t T v e in
+    record { register = refl; nodes = insert-length (b .both .sound) (good-row (partCount T) l (i .good) (i .short)) (i .some-tag) (i .accepted) }
+
 done-alike : (c : Call) (T : Tables) (m : Contents) (v : ℕ) → TypesSay c → answer (planOf c T) ≡ done v → Brought T m →
     Alike T (planOf c T .after)
-unfolding planOf answer emptying lookingUp showing inserting finding deleting counting anyKit
+unfolding planOf answer emptying lookingUp showing inserting finding deleting counting anyKit readingCard
 done-alike emptyBoth T m v y e b =
     record { register = length-replicate (length (T .register)) 0; nodes = length-replicate (length (T .nodes)) 0 }
 done-alike (registerPart n) T m v y e b = register-alike n T v e
 done-alike (lookUp n) T m v y e b = record { register = refl; nodes = refl }
 done-alike (showAt p) T m v y e b = record { register = refl; nodes = refl }
-done-alike (insertKit l t) T m v y e b =
-    let i = insertion l t T v e in
-    record { register = refl; nodes = insert-length (b .both .sound) (good-row (partCount T) l (i .good) (i .short)) (i .some-tag) (i .accepted) }
+done-alike (insertKit l t) T m v y e b = insert-alike l t T m v e b
 done-alike (findKit l) T m v y e b = record { register = refl; nodes = refl }
 done-alike (deleteKit l) T m v y e b = record { register = refl; nodes = delete-length (b .both .sound) (units l) (delete-held l T v e) }
 done-alike (countKits l) T m v y e b = record { register = refl; nodes = refl }
@@ -63,9 +69,11 @@ done-alike (turnWithin l k) T m v y e b = record { register = refl; nodes = refl
 done-alike (turnContaining l k) T m v y e b = record { register = refl; nodes = refl }
 done-alike (writeSheet o) T m v y e b = record { register = refl; nodes = refl }
 done-alike (readSheet s) T m v y e b =
-    let r = what-was-read s T v (y .sheet s refl) e in record { register = r .register-length; nodes = r .nodes-length }
+    let r = what-was-read s T v (y .bytes s sheet) e in record { register = r .register-length; nodes = r .nodes-length }
 done-alike (salvageSheet s) T m v y e b =
-    let r = what-was-rescued s T v (y .torn-sheet s refl) e in record { register = r .register-length; nodes = r .nodes-length }
+    let r = what-was-rescued s T v (y .bytes s torn) e in record { register = r .register-length; nodes = r .nodes-length }
+done-alike (writeCard l o) T m v y e b = record { register = refl; nodes = refl }
+done-alike (readCard s) T m v y e b = insert-alike (listSaid s T) (tagSaid s) T m v (card-inserts s T v e) b
 
 call-alike : (c : Call) (T : Tables) (m : Contents) → TypesSay c → Brought T m → Alike T (memory (planOf c T) T)
 unfolding memory leaves

@@ -1,22 +1,23 @@
 -- Demand 1 from any list of calls: every reply is what the accepted calls and the catalogue's size say.
 use mathlib.Core.Path.{_≡_, sym, ap, subst, _∙_}
-use mathlib.Core.List.{List, _∷_, append-assoc, List·Memᴰ}
+use mathlib.Core.List.{List, _∷_, _++_, append-assoc, List·Memᴰ}
 use Prim.Native.Nat.{ℕ, _+_, _-_}
 use native.Mathlib.Omega.{arith}
 use lib.ListN.{length}
 use lib.Dec.{ltb, eqb}
 use borrow.Author.Tests.{lt-ltb, ltb-true}
-use Rattle.ground.specs.Lists.{anyb}
+use Rattle.ground.specs.Lists.{anyb, orderBy}
 use Rattle.ground.specs.Calls.{done, decide, answer}
 use Rattle.ground.proofs.Laws.{same-cases}
 use Rattle.ground.proofs.Calls.{decide-behind}
 use Rattle.register.specs.Register.{slotCount}
 use Rattle.register.specs.Calls.{lentRegister, numberRefusals, registering, lookingUp, showing}
-use Rattle.kits.specs.Kits.{units}
+use Rattle.kits.specs.Kits.{listFaults, units}
 use Rattle.nodes.specs.Nodes.{size, freeNodes}
-use Rattle.nodes.specs.Held.{Kit, putKit, inOrder, tagIn, tagsOf, held, allBeginnings}
+use Rattle.nodes.specs.Held.{Kit, comesBefore, putKit, inOrder, tagIn, tagsOf, held, allBeginnings}
 use Rattle.nodes.proofs.Sorted.{anyb-eqb, eqb-anyb}
-use Rattle.nodes.proofs.Listing.{order-mem, mem-order, tags-mem, mem-tags}
+use Rattle.nodes.proofs.Listing.{tags-mem, mem-tags}
+use Rattle.nodes.proofs.Ordered.{mem-order, order-mem}
 use Rattle.nodes.proofs.Held.{kit}
 use Rattle.nodes.proofs.Beginnings.{nodes-free}
 use Rattle.index_insert.specs.Enter.{lacks}
@@ -24,19 +25,21 @@ use Rattle.index.specs.Index.{entryRefusals, missingRefusals}
 use Rattle.index_counts.proofs.Needed.{nodes-needed}
 use Rattle.questions.specs.Questions.{isWithin, isContaining}
 use Rattle.sheet.specs.Sheet.{Contents, nodesNeeded}
+use Rattle.card.specs.Card.{cardOf, encodeCard, listOn}
+use Rattle.card.specs.Reading.{decodeCard, saidCard}
 use Rattle.ground.specs.Tables.{Tables}
 use Rattle.tables.specs.Lent.{lengths, lentList}
 use Rattle.tables.proofs.Lent.{lengths-good}
 use Rattle.catalogue.specs.Calls.{Call, emptyBoth, registerPart, lookUp, showAt, insertKit, findKit, deleteKit, anyWithin, anyContaining}
 use Rattle.catalogue.specs.Calls.{allWithin, allContaining, allAlmost, writeSheet, readSheet, salvageSheet, planOf, emptying, inserting, finding}
-use Rattle.catalogue.specs.Calls.{countKits, turnWithin, turnContaining, deleting, reading, salvaging}
+use Rattle.catalogue.specs.Calls.{countKits, turnWithin, turnContaining, deleting, reading, salvaging, readCard, readingCard, writeCard, writingCard}
 use Rattle.demands.specs.Model.{more}
-use Rattle.demands.specs.Demand1.{told, ToldExactly}
+use Rattle.demands.specs.Demand1.{notHeld, told, ToldExactly}
 use Rattle.demands.proofs.Model.{tag-order}
 use Rattle.demands.proofs.Brought.{Brought, brought}
 use Rattle.demands.proofs.Sizes.{sizes}
 use Rattle.demands.proofs.NeverEmpty.{AllListed, never-empty}
-use Rattle.demands.proofs.Answers.{behind-tables, any-answer, all-answer}
+use Rattle.demands.proofs.Answers.{behind-tables, down-answer, any-answer, all-answer}
 use Rattle.demands.proofs.Almost.{almost-answer}
 use Rattle.demands.proofs.Beginning.{count-answer}
 use Rattle.demands.proofs.Pages.{page-answer}
@@ -81,17 +84,17 @@ module _ {T : Tables} {m : Contents} (b : Brought T m) (all : AllListed T) (slot
       let o = tags-mem t (held N) (anyb-eqb t (tagsOf (held N)) h) in
       eqb-anyb t (tagsOf (m .kits))
       (subst (λ (x : ℕ). List·Memᴰ x (tagsOf (m .kits))) (o .2)
-      (mem-tags (o .0) (m .kits) (order-mem (o .0) (m .kits) (subst (List·Memᴰ (o .0)) held-is (o .1))))))
+      (mem-tags (o .0) (m .kits) (order-mem comesBefore (o .0) (m .kits) (subst (List·Memᴰ (o .0)) held-is (o .1))))))
       (λ h.
       let o = tags-mem t (m .kits) (anyb-eqb t (tagsOf (m .kits)) h) in
       eqb-anyb t (tagsOf (held N))
       (subst (λ (x : ℕ). List·Memᴰ x (tagsOf (held N))) (o .2)
-      (mem-tags (o .0) (held N) (subst (List·Memᴰ (o .0)) (sym held-is) (mem-order (o .0) (m .kits) (o .1))))))
+      (mem-tags (o .0) (held N) (subst (List·Memᴰ (o .0)) (sym held-is) (mem-order comesBefore (o .0) (m .kits) (o .1))))))
 
   -- the nodes that an insertion takes, and those that are free
   module _ (l : List ℕ) (t : ℕ) where
     grown : nodesNeeded (more m l t) ≡ nodesNeeded m + lacks (T .nodes) 0 (units l)
-    unfolding inOrder
+    unfolding orderBy
     grown =
         let e : putKit (kit (units l) t) (held N) ≡ inOrder (kit (units l) t ∷ m .kits) = ap (putKit (kit (units l) t)) held-is in
         omega (
@@ -156,6 +159,27 @@ module _ {T : Tables} {m : Contents} (b : Brought T m) (all : AllListed T) (slot
   unfolding answer planOf salvaging told
   salvage-told s = rw (hs, hr) (decide-behind (lengths T) _ 0 _ sized-lent)
 
+  -- cards
+  write-card-told : (l o : List ℕ) → answer (writingCard l T o) ≡ told slots room m (writeCard l o)
+  unfolding writingCard lentList missingRefusals told
+  write-card-told l o =
+      let p = b .parts in
+      let e = tag-told (units l) in
+      rw (p, e, append-assoc) (down-answer b (listFaults (length (m .parts)) l ++ notHeld m l) (encodeCard (cardOf (m .parts) l (tagIn (units l) (m .kits)))) o)
+
+  read-card-told : (s : List ℕ) → answer (planOf (readCard s) T) ≡ told slots room m (readCard s)
+  unfolding answer planOf readingCard entryRefusals told
+  read-card-told s =
+      let c = saidCard (decodeCard s) in
+      let l = listOn (m .parts) c in
+      let p = b .parts in
+      let e1 = tag-told (units l) in
+      let e2 = borne-told (c .tag) in
+      let e3 = full-told l (c .tag) in
+      let e4 = too-few l (c .tag) in
+      let e5 = taken l (c .tag) in
+      rw (p, e1, e2, e3, e4, e5) (behind-tables b _ _)
+
   pub call-told : (c : Call) → answer (planOf c T) ≡ told slots room m c
   unfolding planOf told answer
   call-told emptyBoth = empty-told
@@ -176,6 +200,8 @@ module _ {T : Tables} {m : Contents} (b : Brought T m) (all : AllListed T) (slot
   call-told (writeSheet o) = write-answer b o
   call-told (readSheet s) = read-told s
   call-told (salvageSheet s) = salvage-told s
+  call-told (writeCard l o) = write-card-told l o
+  call-told (readCard s) = read-card-told s
 
 pub told-exactly : ToldExactly
 told-exactly a c h = let z = sizes a h in call-told (brought a h) (never-empty a h) (a .slots) (a .room) (z .slots) (z .room) c

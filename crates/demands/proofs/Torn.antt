@@ -9,6 +9,7 @@ use Rattle.ground.specs.Calls.{decide, answer}
 use Rattle.register.specs.Number.{goodNumber}
 use Rattle.register.specs.Register.{partsOf}
 use Rattle.register.proofs.Answers.{showing-done}
+use Rattle.register.proofs.Places.{number-good}
 use Rattle.register.proofs.Laws.{look-up-exactly}
 use Rattle.catalogue.specs.Calls.{registerPart, planOf}
 use Rattle.demands.specs.Model.{entered, tablesOf}
@@ -16,7 +17,6 @@ use Rattle.demands.specs.Demand1.{told}
 use Rattle.demands.specs.Torn.{TornRefused, HeldFound}
 use Rattle.demands.proofs.Brought.{brought}
 use Rattle.demands.proofs.Told.{told-exactly}
-use Rattle.demands.proofs.Shown.{number-good}
 
 pub torn-refused : TornRefused
 unfolding told decide

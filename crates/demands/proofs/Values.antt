@@ -10,7 +10,7 @@ use lib.ListN.{length, getD, length-append, length-map}
 use borrow.Author.Tests.{not-false, ltb-false}
 use Rattle.ground.specs.Limits.{twoLimit}
 use Rattle.ground.specs.Lists.{anyb, concat, eqList}
-use Rattle.ground.specs.Calls.{Case, Reply, refused, isRefused, valueOf, decide, answer, setDown, Both, setBoth}
+use Rattle.ground.specs.Calls.{Case, Reply, done, refused, isRefused, valueOf, decide, answer, setDown, Both, setBoth}
 use Rattle.ground.proofs.Laws.{by-cond}
 use Rattle.ground.proofs.Calls.{whole-passes, done-passes}
 use Rattle.register.specs.Number.{goodNumber}
@@ -39,7 +39,7 @@ use Rattle.sheet.specs.Bytes.{inBytes, two, Bytes}
 use Rattle.sheet.specs.Sheet.{Contents, contentsOf, placeBytes, lineWords, numberItem, numberItems, recordItem, recordItems, encodeAs, encode}
 use Rattle.sheet.specs.Sheet.{nodesNeeded, withoutEmpty}
 use Rattle.sheet.specs.Inner.{mostItem, mostRecord, goodKit}
-use Rattle.sheet.specs.Reading.{decode, said, salvage, rescued}
+use Rattle.sheet.specs.Reading.{Item, item, fault, isFault, offset, decode, said, salvage, rescued}
 use Rattle.sheet.specs.Calls.{sheetRefusals, roomRefusals, salvageRefusals}
 use Rattle.sheet.proofs.Fits.{Fits, fitting-fits}
 use Rattle.sheet.proofs.Lines.{record-size, lines-few}
@@ -49,6 +49,12 @@ use Rattle.sheet_read.proofs.Listed.{kit-fits}
 use Rattle.sheet_read.proofs.Reading.{said-again}
 use Rattle.sheet_read.proofs.Rescued.{kept-fits}
 use Rattle.sheet_read.proofs.RoundTrip.{SmallTags, words-small, catalogue-fits}
+use Rattle.card.specs.Card.{GoodCard, NamedKit, NamedLine, cardOf, encodeCard, namedItem, namedItems}
+use Rattle.card.specs.Reading.{decodeCard, saidCard}
+use Rattle.card.specs.Calls.{cardRefusals, unknownRefusals}
+use Rattle.card.specs.Inner.{mostNamed}
+use Rattle.card.proofs.Codec.{lines-few as card-lines-few, good-lines-few}
+use Rattle.card.proofs.Offsets.{offset-small}
 use Rattle.tables.specs.Inner.{SoundTables}
 use Rattle.tables.proofs.Lent.{both-passed, lent-passed, few-parts}
 use Rattle.ground.specs.Tables.{Tables, tables}
@@ -56,8 +62,11 @@ use Rattle.tables.specs.Lent.{partCount, lengths, lentBoth, lentList}
 use Rattle.catalogue.specs.Calls.{emptyBoth, registerPart, lookUp, showAt, insertKit, findKit, deleteKit, anyWithin, anyContaining}
 use Rattle.catalogue.specs.Calls.{allWithin, allContaining, allAlmost, writeSheet, readSheet, salvageSheet, planOf, emptying, inserting, finding}
 use Rattle.catalogue.specs.Calls.{countKits, turnWithin, turnContaining, deleting, counting, anyKit, allKits, almostKits, turning, writing, reading}
-use Rattle.catalogue.specs.Calls.{Question, salvaging}
+use Rattle.catalogue.specs.Calls.{Question, listSaid, readCard, readingCard, salvaging, tagOf, tagSaid, writeCard, writingCard}
+use Rattle.demands.specs.Model.{sheet, torn}
 use Rattle.demands.specs.Pins.{ValuesFit}
+use Rattle.catalogue.proofs.Cards.{card-passed, list-short}
+use Rattle.demands.proofs.Cards.{card-of-found}
 use Rattle.demands.proofs.Offsets.{fault-near, salvage-fault-near}
 
 abbrev limit : ℕ
@@ -113,6 +122,21 @@ concat-long f b (x ∷ xs) h =
       h x (List·Memᴰ·head refl),
       concat-long f b xs (λ y m. h y (List·Memᴰ·tail m)),
       suc-mul (length xs) b,
+    )
+
+-- A card
+card-small : (c : NamedKit) → GoodCard c → length (encodeCard c) < limit
+unfolding encodeCard namedItem namedItems inBytes
+card-small c G =
+    omega (
+      arith,
+      concat-long namedItem mostNamed (c .lines) (λ x m. omega (
+        arith,
+        length-append (numberItem (x .number)) (x .quantity ∷ []),
+        number-size (x .number),
+        number-short (x .number) (G .numbers x m),
+      )),
+      good-lines-few c G,
     )
 
 -- Beginnings
@@ -176,6 +200,26 @@ faults-fit n l = also (line-value-fits (length l / 2 + 1)) (lines-fit n 0 1 l)
 list-fits : (T : Tables) (l : List ℕ) → Every SmallValue (lentList T l)
 unfolding lentList
 list-fits T l = every-append (both-fit T) (faults-fit (partCount T) l)
+
+-- and of a card
+unknown-fits : (ps : List (List ℕ)) (k : ℕ) (xs : List NamedLine) → k + length xs ≤ limit → Every SmallValue (unknownRefusals ps k xs)
+unfolding unknownRefusals
+unknown-fits ps k [] h = none
+unknown-fits ps k (x ∷ xs) h = let fits : k < limit = omega arith in also fits (unknown-fits ps (suc k) xs (omega arith))
+
+said-few : (s : List ℕ) → length (saidCard (decodeCard s) .lines) ≤ mostUnits
+unfolding isFault saidCard
+said-few s = go (decodeCard s) refl
+  where
+    go : (m : Item NamedKit) → decodeCard s ≡ m → length (saidCard (decodeCard s) .lines) ≤ mostUnits
+    go (item c rest o) d = card-lines-few s (ap isFault d)
+    go (fault o) d = omega (arith, ap (λ (m : Item NamedKit). length (saidCard m .lines)) d)
+
+card-fits : (ps : List (List ℕ)) (s : List ℕ) → Every SmallValue (cardRefusals ps s)
+unfolding cardRefusals
+card-fits ps s =
+    let fits : offset (decodeCard s) < limit = omega (arith, offset-small s) in
+    also fits (unknown-fits ps 1 (saidCard (decodeCard s) .lines) (omega (arith, said-few s)))
 
 lent-register-fits : (R : List ℕ) → Every SmallValue (lentRegister R)
 unfolding lentRegister
@@ -254,18 +298,30 @@ module _ (R N : List ℕ) (words : (i : ℕ) → getD N i 0 < twoLimit) where
   list-lent : (l : List ℕ) → isRefused (decide (lentList T l) 0) ≡ false → SoundTables (tables R N)
   list-lent l e = lent-passed R N l e
 
+  -- a row of at most 64 units is entered
+  entry-small : SoundTables T → (r : List ℕ) (t : ℕ) → length r ≤ mostUnits → valueOf (decide (entryRefusals r t N) (lacks N 0 r)) < limit
+  unfolding entryRefusals
+  entry-small L r t short =
+      let few : lacks N 0 r ≤ 64 = omega (arith, lacks-most N 0 r, short) in
+      small-step _ _ _ (λ _. some-limit) (λ _.
+      small-step _ _ _ (λ _. tag-here L r) (λ _.
+      small-step _ _ _ (λ _. some-limit) (λ _.
+      small-step _ _ _ (λ _. omega arith) (λ _. end-small _ (omega arith)))))
+
   pub inserting-small : (l : List ℕ) (t : ℕ) → valueOf (answer (inserting l t (tables R N))) < limit
-  unfolding answer inserting entryRefusals
+  unfolding answer inserting
   inserting-small l t = small-front (lentBoth T) _ _ (both-fit T) (λ e.
-      let L = both-passed R N e in
       small-step _ _ _ (λ _. some-limit) (λ _.
       small-front (listFaults (partCount T) l) _ _ (faults-fit (partCount T) l) (λ _.
-      small-step _ _ _ (λ _. some-limit) (λ s.
-      let few : lacks N 0 (units l) ≤ 64 = omega (arith, lacks-most N 0 (units l), ltb-false mostUnits (length (units l)) s) in
-      small-step _ _ _ (λ _. some-limit) (λ _.
-      small-step _ _ _ (λ _. tag-here L (units l)) (λ _.
-      small-step _ _ _ (λ _. some-limit) (λ _.
-      small-step _ _ _ (λ _. omega arith) (λ _. end-small _ (omega arith)))))))))
+      small-step _ _ _ (λ _. some-limit) (λ s. entry-small (both-passed R N e) (units l) t (ltb-false mostUnits (length (units l)) s)))))
+
+  pub reading-card-small : (s : List ℕ) → valueOf (answer (readingCard s (tables R N))) < limit
+  unfolding answer readingCard
+  reading-card-small s = small-front (lentBoth T) _ _ (both-fit T) (λ e.
+      small-front (cardRefusals (partsOf R) s) _ _ (card-fits (partsOf R) s) (λ f.
+      let passed = card-passed (partsOf R) s (whole-passes (decide (cardRefusals (partsOf R) s) 0) (cardRefusals (partsOf R) s) 0 0 refl f) in
+      let L = both-passed R N e in
+      entry-small L (units (listSaid s T)) (tagSaid s) (list-short s T (passed .0) (passed .1) L)))
 
   pub finding-small : (l : List ℕ) → valueOf (answer (finding l (tables R N))) < limit
   unfolding answer finding missingRefusals
@@ -313,6 +369,14 @@ module _ (R N : List ℕ) (words : (i : ℕ) → getD N i 0 < twoLimit) where
       small-step _ _ _ (λ _. some-limit) (λ _. end-small _
       (first-small limit (following question l b N) some-limit (λ k i.
       fitting-here (list-lent l e) question l k (keep-mem (comesAfter (rowShown b)) k (fitting question l N) i .0)))))
+
+  pub writing-card-small : (l o : List ℕ) → valueOf (answer (writingCard l (tables R N) o)) < limit
+  unfolding answer finding writingCard missingRefusals
+  writing-card-small l o =
+      let cs = lentList T l ++ missingRefusals (units l) N in
+      down-small cs _ o (every-append (list-fits T l) (also some-limit none)) (λ e.
+      let found : answer (finding l T) ≡ done (tagOf T l) = whole-passes (decide cs 0) cs 0 (tagOf T l) refl e in
+      card-small (cardOf (partsOf R) l (tagOf T l)) (card-of-found T l (tagOf T l) found words))
 
   pub emptying-small : valueOf (answer (emptying (tables R N))) < limit
   unfolding answer emptying
@@ -388,21 +452,23 @@ salvaging-small s T h = small-front (lengths T) _ _ (lengths-fit T) (λ e.
 
 pub values-fit : ValuesFit
 unfolding planOf answer
-values-fit emptyBoth T w b c = emptying-small (T .register) (T .nodes) w
-values-fit (registerPart n) T w b c = registering-small n (T .register)
-values-fit (lookUp n) T w b c = looking-small n (T .register)
-values-fit (showAt p) T w b c = showing-small p (T .register)
-values-fit (insertKit l t) T w b c = inserting-small (T .register) (T .nodes) w l t
-values-fit (findKit l) T w b c = finding-small (T .register) (T .nodes) w l
-values-fit (deleteKit l) T w b c = deleting-small (T .register) (T .nodes) w l
-values-fit (countKits l) T w b c = counting-small (T .register) (T .nodes) w l
-values-fit (anyWithin l) T w b c = any-small (T .register) (T .nodes) w isWithin l
-values-fit (anyContaining l) T w b c = any-small (T .register) (T .nodes) w isContaining l
-values-fit (allWithin l o) T w b c = all-small (T .register) (T .nodes) w isWithin l o
-values-fit (allContaining l o) T w b c = all-small (T .register) (T .nodes) w isContaining l o
-values-fit (allAlmost d l o) T w b c = almost-small (T .register) (T .nodes) w d l o
-values-fit (turnWithin l k) T w b c = turning-small (T .register) (T .nodes) w isWithin l k
-values-fit (turnContaining l k) T w b c = turning-small (T .register) (T .nodes) w isContaining l k
-values-fit (writeSheet o) T w b c = writing-small (T .register) (T .nodes) w o
-values-fit (readSheet s) T w b c = reading-small s T (b s refl)
-values-fit (salvageSheet s) T w b c = salvaging-small s T (c s refl)
+values-fit emptyBoth T w y = emptying-small (T .register) (T .nodes) w
+values-fit (registerPart n) T w y = registering-small n (T .register)
+values-fit (lookUp n) T w y = looking-small n (T .register)
+values-fit (showAt p) T w y = showing-small p (T .register)
+values-fit (insertKit l t) T w y = inserting-small (T .register) (T .nodes) w l t
+values-fit (findKit l) T w y = finding-small (T .register) (T .nodes) w l
+values-fit (deleteKit l) T w y = deleting-small (T .register) (T .nodes) w l
+values-fit (countKits l) T w y = counting-small (T .register) (T .nodes) w l
+values-fit (anyWithin l) T w y = any-small (T .register) (T .nodes) w isWithin l
+values-fit (anyContaining l) T w y = any-small (T .register) (T .nodes) w isContaining l
+values-fit (allWithin l o) T w y = all-small (T .register) (T .nodes) w isWithin l o
+values-fit (allContaining l o) T w y = all-small (T .register) (T .nodes) w isContaining l o
+values-fit (allAlmost d l o) T w y = almost-small (T .register) (T .nodes) w d l o
+values-fit (turnWithin l k) T w y = turning-small (T .register) (T .nodes) w isWithin l k
+values-fit (turnContaining l k) T w y = turning-small (T .register) (T .nodes) w isContaining l k
+values-fit (writeSheet o) T w y = writing-small (T .register) (T .nodes) w o
+values-fit (readSheet s) T w y = reading-small s T (y .bytes s sheet)
+values-fit (salvageSheet s) T w y = salvaging-small s T (y .bytes s torn)
+values-fit (writeCard l o) T w y = writing-card-small (T .register) (T .nodes) w l o
+values-fit (readCard s) T w y = reading-card-small (T .register) (T .nodes) w s

@@ -14,7 +14,7 @@ use Rattle.kits.specs.Kits.{listFaults, goodList}
 use Rattle.pages.specs.declared.Bookmark.{Bookmark}
 use Rattle.tables.specs.Lent.{partCount}
 use Rattle.catalogue.specs.Calls.{Call, insertKit, findKit, deleteKit, countKits, anyWithin, anyContaining, allWithin, allContaining, allAlmost}
-use Rattle.catalogue.specs.Calls.{turnWithin, turnContaining, planOf}
+use Rattle.catalogue.specs.Calls.{turnWithin, turnContaining, writeCard, planOf}
 use Rattle.demands.specs.Demand1.{bothTables, LengthWrong, TableUnsound}
 
 -- the first k lines of a list
@@ -48,6 +48,7 @@ pub data TakesList (l : List ℕ) : Call → Bool → Type 0 where
   almost-all : (d : ℕ) (o : Both) → TakesList l (allAlmost d l o) false
   within-page : (b : Bookmark) → TakesList l (turnWithin l b) false
   containing-page : (b : Bookmark) → TakesList l (turnContaining l b) false
+  to-write : (o : List ℕ) → TakesList l (writeCard l o) false
 
 -- [14.21] "every call that takes a list hands it on": of any tables, 4, 5 or 6 with this value exactly where the tables are right and sound,
 -- the tag is not 0 and the check of the list says so. Proof: `list-exactly`

@@ -11,7 +11,7 @@ use Prim.Native.Nat.{_+_, _-_, ℕ}
 use lib.ListN.{length}
 use lib.Dec.{eqb, leb, ltb}
 use Rattle.ground.specs.Lists.{anyb, isZero}
-use Rattle.ground.specs.Calls.{Both, Given, Plan, Reply, answer, decide, done, given, memory, numberOf, refused, setDown}
+use Rattle.ground.specs.Calls.{Both, Case, Given, Plan, Reply, answer, decide, done, given, memory, numberOf, refused, setDown}
 use Rattle.ground.specs.Tables.{Tables}
 use Rattle.register.specs.Number.{goodNumber, punctuationAtEnd}
 use Rattle.register.specs.Register.{placeIn, registerLength, registerSound}
@@ -24,15 +24,33 @@ use Rattle.pages.specs.declared.Bookmark.{Bookmark}
 use Rattle.sheet.specs.Sheet.{Contents, encode, nodesNeeded, withoutEmpty}
 use Rattle.sheet.specs.Reading.{decode, said, salvage, rescued}
 use Rattle.sheet.specs.Calls.{sheetRefusals, salvageRefusals}
+use Rattle.card.specs.Card.{cardOf, encodeCard, listOn}
+use Rattle.card.specs.Reading.{decodeCard, saidCard}
+use Rattle.card.specs.Calls.{cardRefusals}
 use Rattle.tables.specs.Lent.{partCount}
 use Rattle.catalogue.specs.Calls.{Call, Question, allAlmost, allContaining, allKits, allWithin, almostKits, anyContaining, anyWithin}
 use Rattle.catalogue.specs.Calls.{countKits, deleteKit, emptyBoth, findKit, insertKit, lookUp, planOf, readSheet, registerPart, showAt, writeSheet}
-use Rattle.catalogue.specs.Calls.{salvageSheet, turnContaining, turnWithin, turning, writing}
+use Rattle.catalogue.specs.Calls.{readCard, salvageSheet, turnContaining, turnWithin, turning, writeCard, writing, writingCard}
 use Rattle.demands.specs.Model.{Allowed, Catalogue, almostOf, answering, entered, listedIn, listingOf, more, pageOf, tablesOf}
 
 ------------------------------------------------------------------------
 -- Every reply, from any list of calls: what a catalogue that was begun empty answers, in terms of what its accepted calls left and of its
 -- size, and never of a table. So 1 and 2 are never answered, and every other refusal comes in its case and in no other.
+
+-- a list is not held
+abbrev pub notHeld : Contents → List ℕ → List Case
+notHeld m l = given (isZero (tagIn (units l) (m .kits))) 11 0 ∷ []
+
+-- a good list is entered: 19, 9, 10, 12, and the nodes taken
+abbrev pub notEntered : ℕ → Contents → List ℕ → ℕ → List Case
+notEntered room m l t =
+    given (isZero (length (units l))) 19 0
+    ∷ given (not (isZero (tagIn (units l) (m .kits)))) 9 (tagIn (units l) (m .kits))
+    ∷ given (anyb (eqb t) (tagsOf (m .kits))) 10 0
+    ∷ given (ltb room (nodesNeeded (more m l t))) 12 (nodesNeeded (more m l t) - room) ∷ []
+
+abbrev pub nodesTaken : Contents → List ℕ → ℕ → ℕ
+nodesTaken m l t = nodesNeeded (more m l t) - nodesNeeded m
 
 -- a catalogue with so many slots and nodes that has m
 unfoldable pub told : ℕ → ℕ → Contents → Call → Reply
@@ -50,15 +68,10 @@ told slots room m (insertKit l t) = decide
     (given (isZero t) 8 0
     ∷ (listFaults (length (m .parts)) l
     ++ (given (ltb mostUnits (length (units l))) 7 0
-    ∷ given (isZero (length (units l))) 19 0
-    ∷ given (not (isZero (tagIn (units l) (m .kits)))) 9 (tagIn (units l) (m .kits))
-    ∷ given (anyb (eqb t) (tagsOf (m .kits))) 10 0
-    ∷ given (ltb room (nodesNeeded (more m l t))) 12 (nodesNeeded (more m l t) - room) ∷ [])))
-    (nodesNeeded (more m l t) - nodesNeeded m)
-told slots room m (findKit l) =
-    decide (listFaults (length (m .parts)) l ++ (given (isZero (tagIn (units l) (m .kits))) 11 0 ∷ [])) (tagIn (units l) (m .kits))
-told slots room m (deleteKit l) =
-    decide (listFaults (length (m .parts)) l ++ (given (isZero (tagIn (units l) (m .kits))) 11 0 ∷ [])) (tagIn (units l) (m .kits))
+    ∷ notEntered room m l t)))
+    (nodesTaken m l t)
+told slots room m (findKit l) = decide (listFaults (length (m .parts)) l ++ notHeld m l) (tagIn (units l) (m .kits))
+told slots room m (deleteKit l) = decide (listFaults (length (m .parts)) l ++ notHeld m l) (tagIn (units l) (m .kits))
 told slots room m (countKits l) = decide (listFaults (length (m .parts)) l) (countBeginning (units l) (m .kits))
 told slots room m (anyWithin l) = decide (listFaults (length (m .parts)) l) (firstTag (answering isWithin l m))
 told slots room m (anyContaining l) = decide (listFaults (length (m .parts)) l) (firstTag (answering isContaining l m))
@@ -70,6 +83,11 @@ told slots room m (turnContaining l b) = answer (pageOf isContaining l m b)
 told slots room m (writeSheet o) = answer (setDown [] (encode (listedIn m)) o)
 told slots room m (readSheet s) = decide (sheetRefusals s slots room) (length (withoutEmpty (said (decode s)) .kits))
 told slots room m (salvageSheet s) = decide (salvageRefusals s slots room) (length (withoutEmpty (rescued (salvage s) .kept) .kits))
+told slots room m (writeCard l o) =
+    answer (setDown (listFaults (length (m .parts)) l ++ notHeld m l) (encodeCard (cardOf (m .parts) l (tagIn (units l) (m .kits)))) o)
+told slots room m (readCard s) =
+    let c = saidCard (decodeCard s) in
+    decide (cardRefusals (m .parts) s ++ notEntered room m (listOn (m .parts) c) (c .tag)) (nodesTaken m (listOn (m .parts) c) (c .tag))
 
 -- [14.2] Proof: Told, `told-exactly`
 abbrev pub ToldExactly : Type 0
@@ -102,6 +120,8 @@ asksOf (turnContaining l b) = bothTables
 asksOf (writeSheet o) = bothTables
 asksOf (readSheet s) = theLengths
 asksOf (salvageSheet s) = theLengths
+asksOf (writeCard l o) = bothTables
+asksOf (readCard s) = bothTables
 
 -- "a table has a wrong length"
 abbrev pub LengthWrong : TablesAsked → Tables → Type 0
@@ -145,6 +165,8 @@ numbersGiven (turnContaining l b) = 1 ∷ 2 ∷ 4 ∷ 5 ∷ 6 ∷ 15 ∷ []
 numbersGiven (writeSheet o) = 1 ∷ 2 ∷ 12 ∷ []
 numbersGiven (readSheet s) = 1 ∷ 13 ∷ 12 ∷ []
 numbersGiven (salvageSheet s) = 1 ∷ 13 ∷ 12 ∷ []
+numbersGiven (writeCard l o) = 1 ∷ 2 ∷ 4 ∷ 5 ∷ 6 ∷ 11 ∷ 12 ∷ []
+numbersGiven (readCard s) = 1 ∷ 2 ∷ 13 ∷ 11 ∷ 19 ∷ 9 ∷ 10 ∷ 12 ∷ []
 
 -- [14.23] of any tables, a call is done or refused with one of its numbers. Proof: LaidDown, `numbers-laid-down`
 abbrev pub NumbersLaidDown : Type 0
@@ -163,24 +185,27 @@ RefusedExactly = (c : Call) (T : Tables) (n v : ℕ) → (answer (planOf c T) �
 abbrev pub RefusalKeeps : Type 0
 RefusalKeeps = (c : Call) (T : Tables) (n v : ℕ) → answer (planOf c T) ≡ refused n v → memory (planOf c T) T ≡ T
 
--- the calls that set something down: a listing and the sheet in an output, the kits that a bin almost fills in two, a page in its bookmark
+-- the calls that set something down: a listing, the sheet and a card in an output, the kits that a bin almost fills in two, a page in its bookmark
 pub data SetsDown : Type 0 where
   listing : Question → List ℕ → SetsDown
   listingAlmost : ℕ → List ℕ → SetsDown
   page : Question → List ℕ → SetsDown
   sheet : SetsDown
+  card : List ℕ → SetsDown
 
 abbrev pub Output : SetsDown → Type 0
 Output (listing question l) = List ℕ
 Output (listingAlmost d l) = Both
 Output (page question l) = Bookmark
 Output sheet = List ℕ
+Output (card l) = List ℕ
 
 unfoldable pub settingDown : (x : SetsDown) → Tables → Output x → Plan (Output x)
 settingDown (listing question l) T o = allKits question l T o
 settingDown (listingAlmost d l) T o = almostKits d l T o
 settingDown (page question l) T b = turning question l T b
 settingDown sheet T o = writing T o
+settingDown (card l) T o = writingCard l T o
 
 -- [14.4] "the tables and output are byte for byte what they were": the output, or both; the bookmark in every word. Proof: Refusals, `refusal-keeps-output`
 abbrev pub RefusalKeepsOutput : Type 0

@@ -14,3 +14,4 @@ pub mod Before
 pub mod Versions
 pub mod Torn
 pub mod Rescue
+pub mod Cards

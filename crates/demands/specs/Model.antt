@@ -20,12 +20,18 @@ use Rattle.pages.specs.declared.Bookmark.{Bookmark}
 use Rattle.sheet.specs.Bytes.{Bytes}
 use Rattle.sheet.specs.Sheet.{Contents, withoutEmpty}
 use Rattle.sheet.specs.Reading.{decode, said, salvage, rescued}
+use Rattle.card.specs.Card.{listOn}
+use Rattle.card.specs.Reading.{decodeCard, saidCard}
 use Rattle.catalogue.specs.Calls.{Call, Question, allAlmost, allContaining, allWithin, anyContaining, anyWithin, contents, countKits, deleteKit}
-use Rattle.catalogue.specs.Calls.{emptyBoth, findKit, insertKit, lookUp, planOf, readSheet, registerPart, salvageSheet, showAt, turnContaining, turnWithin}
-use Rattle.catalogue.specs.Calls.{writeSheet}
+use Rattle.catalogue.specs.Calls.{emptyBoth, findKit, insertKit, lookUp, planOf, readCard, readSheet, registerPart, salvageSheet, showAt, turnContaining}
+use Rattle.catalogue.specs.Calls.{turnWithin, writeCard, writeSheet}
 
 abbrev pub has : List (List ℕ) → List Kit → Contents
 has ps ks = record { parts = ps; kits = ks }
+
+-- with a kit more
+abbrev pub more : Contents → List ℕ → ℕ → Contents
+more m l t = has (m .parts) (record { row = units l; tag = t } ∷ m .kits)
 
 -- a kit without a unit, and with this tag
 abbrev pub emptyKit : ℕ → Kit
@@ -36,7 +42,7 @@ accepted emptyBoth m = has [] []
 accepted (registerPart n) m = has (m .parts ++ (n ∷ [])) (m .kits)
 accepted (lookUp n) m = m
 accepted (showAt p) m = m
-accepted (insertKit l t) m = has (m .parts) (record { row = units l; tag = t } ∷ m .kits)
+accepted (insertKit l t) m = more m l t
 accepted (findKit l) m = m
 accepted (deleteKit l) m = has (m .parts) (dropKit (units l) (m .kits))
 accepted (countKits l) m = m
@@ -51,6 +57,9 @@ accepted (writeSheet o) m = m
 accepted (readSheet s) m = withoutEmpty (said (decode s))
 -- request 12: "Demand 3 takes what is kept as read, the torn sheet not as accepted"
 accepted (salvageSheet s) m = withoutEmpty (rescued (salvage s) .kept)
+accepted (writeCard l o) m = m
+-- request 5: a card read is its list inserted
+accepted (readCard s) m = more m (listOn (m .parts) (saidCard (decodeCard s))) (saidCard (decodeCard s) .tag)
 
 unfoldable pub step : Call → Reply → Contents → Contents
 step c (done v) m = accepted c m
@@ -69,11 +78,16 @@ unfoldable pub log : List Call → Tables → List (Call × Reply)
 log [] T = []
 log (c ∷ cs) T = (c, answer (planOf c T)) ∷ log cs (memory (planOf c T) T)
 
--- what the types say: of a call, that a tag is a 16-bit number and a sheet, also a torn one, is bytes; of lent tables, that the nodes are 16-bit words
+-- a call that reads s
+pub data ReadsBytes (s : List ℕ) : Call → Type 0 where
+  sheet : ReadsBytes s (readSheet s)
+  torn : ReadsBytes s (salvageSheet s)
+  card : ReadsBytes s (readCard s)
+
+-- what the types say: of a call, that a tag is a 16-bit number and what it reads is bytes; of lent tables, that the nodes are 16-bit words
 pub record TypesSay (c : Call) : Type 0 where
   pub tag : (l : List ℕ) (t : ℕ) → insertKit l t ≡ c → t < twoLimit
-  pub sheet : (s : List ℕ) → readSheet s ≡ c → Bytes s
-  pub torn-sheet : (s : List ℕ) → salvageSheet s ≡ c → Bytes s
+  pub bytes : (s : List ℕ) → ReadsBytes s c → Bytes s
 
 abbrev pub Words : Tables → Type 0
 Words T = (i : ℕ) → getD (T .nodes) i 0 < twoLimit
@@ -90,9 +104,7 @@ pub record Allowed (a : Catalogue) : Type 0 where
   pub few-slots : a .slots ≤ mostParts
   pub some-node : 1 ≤ a .room
   pub few-nodes : a .room ≤ mostNodes
-  pub tags : (l : List ℕ) (t : ℕ) → List·Memᴰ (insertKit l t) (a .calls) → t < twoLimit
-  pub sheets : (s : List ℕ) → List·Memᴰ (readSheet s) (a .calls) → Bytes s
-  pub torn-sheets : (s : List ℕ) → List·Memᴰ (salvageSheet s) (a .calls) → Bytes s
+  pub typed : (c : Call) → List·Memᴰ c (a .calls) → TypesSay c
 
 unfoldable pub begun : Catalogue → Tables
 begun a = tables (replicate (a .slots * slotBytes) 0) (replicate (a .room * wordsPerNode) 0)
@@ -113,10 +125,6 @@ HasWhatWasEntered = (a : Catalogue) → Allowed a → contents (tablesOf a) ≡ 
 
 ------------------------------------------------------------------------
 -- What is asked of some contents
-
--- with a kit more
-abbrev pub more : Contents → List ℕ → ℕ → Contents
-more m l t = has (m .parts) (record { row = units l; tag = t } ∷ m .kits)
 
 -- the kits that answer a question, in listing order
 unfoldable pub answering : Question → List ℕ → Contents → List Kit

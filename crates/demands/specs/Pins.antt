@@ -8,10 +8,9 @@ use Rattle.ground.specs.Tables.{Tables}
 use Rattle.kits.specs.Kits.{units}
 use Rattle.nodes.specs.Nodes.{usedNodes}
 use Rattle.nodes.specs.Held.{allBeginnings}
-use Rattle.sheet.specs.Bytes.{Bytes}
-use Rattle.catalogue.specs.Calls.{Call, inserting, planOf, readSheet, salvageSheet}
+use Rattle.catalogue.specs.Calls.{Call, inserting, planOf}
 use Rattle.demands.specs.Demand1.{SetsDown, Output, settingDown}
-use Rattle.demands.specs.Model.{Allowed, Catalogue, Words, entered, tablesOf}
+use Rattle.demands.specs.Model.{Allowed, Catalogue, TypesSay, Words, entered, tablesOf}
 
 -- [14.14] Document 01, "What the promises pin": "for every input, refused ones too, each public promise determines the answer and every lent word
 -- and byte afterwards". Proof: Refusals, `tables-pinned`, `output-pinned`
@@ -39,5 +38,4 @@ NodesTaken =
 -- [7.2] "Each answer is a number (0 for done) and a value below 2^32", whatever is lent. Proof: Values, `values-fit`
 abbrev pub ValuesFit : Type 0
 ValuesFit =
-    (c : Call) (T : Tables) → Words T → ((s : List ℕ) → readSheet s ≡ c → Bytes s) → ((s : List ℕ) → salvageSheet s ≡ c → Bytes s) →
-    valueOf (answer (planOf c T)) < 2 ^ 32
+    (c : Call) (T : Tables) → Words T → TypesSay c → valueOf (answer (planOf c T)) < 2 ^ 32

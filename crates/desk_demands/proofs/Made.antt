@@ -18,8 +18,8 @@ use Rattle.sheet.specs.Bytes.{Bytes}
 use Rattle.questions.specs.Questions.{isWithin, isContaining}
 use Rattle.catalogue.specs.Calls.{Call, emptyBoth, registerPart, lookUp, showAt, insertKit, findKit, deleteKit, anyWithin, anyContaining}
 use Rattle.catalogue.specs.Calls.{countKits, allWithin, allContaining, allAlmost, turnWithin, turnContaining, writeSheet, readSheet, salvageSheet, planOf}
-use Rattle.catalogue.specs.Calls.{inserting, finding, deleting, anyKit}
-use Rattle.demands.specs.Model.{run, Allowed, begun, tablesOf}
+use Rattle.catalogue.specs.Calls.{inserting, finding, deleting, anyKit, readCard, writeCard}
+use Rattle.demands.specs.Model.{run, ReadsBytes, sheet, torn, card, TypesSay, Allowed, begun, tablesOf}
 use Rattle.demands.specs.Demand3.{Writes}
 use Rattle.demands.proofs.Sheets.{sheets-tell}
 use Rattle.desk_text.specs.Letters as letter
@@ -166,7 +166,7 @@ line-fits l =
     let good = every (leb 1 (length l) ∷ leb (length l) longestLine ∷ allb filled (fieldsOf l) ∷ []) in
     by-cond TagFits good (lettered (fieldsOf l)) none (λ _. fields-fit (fieldsOf l)) (λ _. tt)
 
--- of a call: its tag is a 16-bit number, and it reads no sheet
+-- of a call: its tag is a 16-bit number, and it reads bytes
 abbrev Fit : Call → Type 0
 Fit emptyBoth = Unit
 Fit (registerPart n) = Unit
@@ -186,6 +186,16 @@ Fit (turnContaining l b) = Unit
 Fit (writeSheet o) = Unit
 Fit (readSheet s) = Bytes s
 Fit (salvageSheet s) = Bytes s
+Fit (writeCard l o) = Unit
+Fit (readCard s) = Bytes s
+
+fit-bytes : {s : List ℕ} {c : Call} → ReadsBytes s c → Fit c → Bytes s
+fit-bytes sheet f = f
+fit-bytes torn f = f
+fit-bytes card f = f
+
+fit-typed : (c : Call) → Fit c → TypesSay c
+fit-typed c f = record { tag = λ l t e. subst Fit (sym e) f; bytes = λ s r. fit-bytes r f }
 
 lookups-fit : (R : List ℕ) (fs : List (List ℕ)) → Every Fit (lookups R fs)
 unfolding lookups leaves
@@ -238,9 +248,7 @@ desk-allowed input =
       few-slots = omega arith;
       some-node = omega arith;
       few-nodes = omega arith;
-      tags = λ l t m. every-mem f m;
-      sheets = λ s m. every-mem f m;
-      torn-sheets = λ s m. every-mem f m;
+      typed = λ c m. fit-typed c (every-mem f m);
     }
 
 pub desk-is-catalogue : DeskIsCatalogue

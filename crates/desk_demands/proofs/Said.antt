@@ -15,10 +15,10 @@ use Rattle.register.specs.Register.{slotCount, placeIn}
 use Rattle.register.specs.Calls.{lookingUp}
 use Rattle.kits.specs.Kits.{units, lineFaults, linesFaults, listFaults}
 use Rattle.nodes.specs.Nodes.{size, nodesOf, tagged}
-use Rattle.nodes.specs.Held.{inOrder, tagsOf, kitAt, held}
+use Rattle.nodes.specs.Held.{comesBefore, inOrder, tagsOf, kitAt, held}
 use Rattle.nodes.proofs.Sorted.{Every, none as no-more, also, every-append, keep-short}
 use Rattle.nodes.proofs.Listing.{tags-long}
-use Rattle.sheet_write.proofs.Whole.{order-many}
+use Rattle.nodes.proofs.Ordered.{order-length}
 use Rattle.sheet.specs.Sheet.{Contents}
 use Rattle.questions.specs.Questions.{isWithin, isContaining}
 use Rattle.catalogue.specs.Calls.{Call, Question, registerPart, lookUp, insertKit, findKit, deleteKit, anyWithin, anyContaining, allWithin}
@@ -152,7 +152,7 @@ module _ {T : Tables} {m : Contents} (b : Brought T m) (all : AllListed T) (hs :
             arith,
             hr,
             ap length (all ∙ b .kits),
-            order-many (map (kitAt (T .nodes)) ends),
+            order-length comesBefore (map (kitAt (T .nodes)) ends),
             length-map ends (kitAt (T .nodes)),
             keep-short (tagged (T .nodes)) (from 0 (size (T .nodes))),
             length-from 0 (size (T .nodes)),

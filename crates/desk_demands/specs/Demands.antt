@@ -14,6 +14,7 @@ use Rattle.questions.specs.Questions.{isWithin, isContaining}
 use Rattle.sheet.specs.Sheet.{Contents, encode}
 use Rattle.catalogue.specs.Calls.{Call, emptyBoth, registerPart, lookUp, showAt, insertKit, findKit, deleteKit, anyWithin, anyContaining}
 use Rattle.catalogue.specs.Calls.{countKits, allWithin, allContaining, allAlmost, turnWithin, turnContaining, writeSheet, readSheet, salvageSheet}
+use Rattle.catalogue.specs.Calls.{readCard, writeCard}
 use Rattle.demands.specs.Model.{Allowed, tablesOf, entered, listedIn, answering}
 use Rattle.demands.specs.Demand1.{told}
 use Rattle.demands.specs.Demand3.{Writes, Agree}
@@ -59,6 +60,8 @@ shownFor m (turnWithin l b) = []
 shownFor m (turnContaining l b) = []
 shownFor m (readSheet s) = []
 shownFor m (salvageSheet s) = []
+shownFor m (writeCard l o) = []
+shownFor m (readCard s) = []
 
 -- "A reply line is letter, number, value", and what is shown "when done": the reply of a desk that has m to a call, with the letter x
 unfoldable pub toldLine : ℕ → Contents → Call → List ℕ

@@ -1,10 +1,8 @@
 -- Inner: no promise of the house rests on what stands here; inner contracts and proofs speak by it.
 -- What is kept of a line that comes in pieces.
-use mathlib.Core.Path.{_≡_}
 use mathlib.Core.List.{List, [], _∷_, _++_}
 use Prim.Native.Nat.{ℕ, suc, _+_, _-_}
 use lib.ListN.{length, take}
-use Rattle.ground.specs.Laid.{laid}
 use Rattle.desk_text.specs.Lines.{longestLine}
 use Rattle.desk_input.specs.Lines.{ended, unfinished, lastLine, answered}
 

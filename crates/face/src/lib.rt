@@ -12,6 +12,7 @@ ghost use Rattle.answers.specs.Answers.{reply};
 ghost use Rattle.register.specs.Calls.{registering, lookingUp, showing, stretchFrom, stretchSize};
 ghost use Rattle.questions.specs.Questions.{isWithin, isContaining};
 ghost use Rattle.catalogue.specs.Calls.{emptying, inserting, finding, deleting, counting, anyKit, allKits, almostKits, turning, writing, reading};
+ghost use Rattle.catalogue.specs.Calls.{writingCard, readingCard};
 ghost use Rattle.face.specs.Face.{Handed, Crosses, lentMark, markOf, setTo, overLent, SmallReport, reportOut, RescueCrosses};
 use answers::Answer;
 use answers::refused;
@@ -357,4 +358,33 @@ pub extern "C" fn padrisk_salvage(
         third,
         value,
     )
+}
+
+// Writes the card of a held list at the start of the output: the bytes written.
+#[no_mangle]
+pub extern "C" fn padrisk_write_card(
+    reg: &[u8],
+    nodes: &[u16],
+    list: &[u16],
+    out: &mut [u8],
+    value: &mut u32,
+) -> u8
+    ensures { λ r. ⌜ Crosses (writingCard (now (list .entry)) (tables (now (reg .entry)) (now (nodes .entry)))) (now (out .entry))
+        r (now (value .exit)) (now (out .exit)) ⌝ }
+{
+    hand_over(catalogue::write_card(reg, nodes, list, out), value)
+}
+
+// Reads a card into the index: the nodes newly taken.
+#[no_mangle]
+pub extern "C" fn padrisk_read_card(
+    reg: &[u8],
+    nodes: &mut [u16],
+    card: &[u8],
+    value: &mut u32,
+) -> u8
+    ensures { λ r. ⌜ Crosses (readingCard (now (card .entry))) (tables (now (reg .entry)) (now (nodes .entry)))
+        r (now (value .exit)) (tables (now (reg .entry)) (now (nodes .exit))) ⌝ }
+{
+    hand_over(catalogue::read_card(reg, nodes, card), value)
 }

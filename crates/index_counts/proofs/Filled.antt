@@ -9,10 +9,11 @@ use lib.ListN.{length}
 use Rattle.kits.specs.Inner.{GoodRow}
 use Rattle.nodes.specs.Nodes.{size}
 use Rattle.nodes.specs.Inner.{Sound}
-use Rattle.nodes.specs.Held.{Kit, putKit, held, tagIn, tagsOf, allBeginnings}
+use Rattle.nodes.specs.Held.{Kit, comesBefore, putKit, held, tagIn, tagsOf, allBeginnings}
 use Rattle.nodes.proofs.Lists.{same-or}
 use Rattle.nodes.proofs.Sorted.{Every, Rising, also, ahead, every-mem, no-longer, anyb-eqb}
-use Rattle.nodes.proofs.Listing.{Earlier, listing-same, put-mem, put-new, put-old, tag-from, tags-mem}
+use Rattle.nodes.proofs.Listing.{Earlier, listing-same, tag-from, tags-mem}
+use Rattle.nodes.proofs.Ordered.{put-mem, put-new, put-old}
 use Rattle.nodes.proofs.Held.{kit, held-rises}
 use Rattle.nodes.proofs.Beginnings.{Begun, beginnings-differ, beginnings-begun, begun-beginnings, nodes-free}
 use Rattle.index_insert.specs.Enter.{enter, enterAll}
@@ -79,7 +80,7 @@ module _ {parts : ℕ} {T : List Kit} {N : List ℕ} {k : Kit} {ks : List Kit} (
           F .room,
           more-beginnings (putKit (kit r t) (held N)) T
               (λ x m. ⊎-elim (λ (e : x ≡ kit r t). subst (λ (y : Kit). List·Memᴰ y T) (sym e) (F .all-in k first)) (λ j. F .held-in x j)
-              (put-mem (kit r t) x (held N) m)),
+              (put-mem comesBefore (kit r t) x (held N) m)),
         );
   }
     where
@@ -101,7 +102,7 @@ module _ {parts : ℕ} {T : List Kit} {N : List ℕ} {k : Kit} {ks : List Kit} (
   is-held = held-after-insert (F .sound) (k-fit .row) (k-fit .some-tag) acceptable
 
   now-held : (x : Kit) → List·Memᴰ x (held M) → (x ≡ k) ⊎ List·Memᴰ x (held N)
-  now-held x m = put-mem (kit r t) x (held N) (subst (List·Memᴰ x) is-held m)
+  now-held x m = put-mem comesBefore (kit r t) x (held N) (subst (List·Memᴰ x) is-held m)
 
   same-table : length M ≡ length N
   same-table = insert-length (F .sound) (k-fit .row) (k-fit .some-tag) acceptable
@@ -141,10 +142,10 @@ module _ {parts : ℕ} {T : List Kit} {N : List ℕ} {k : Kit} {ks : List Kit} (
     entered = λ x m. ⊎-elim
         (λ (e : x ≡ k). y .kept x
         (subst (List·Memᴰ x) (sym is-held)
-        (subst (λ (z : Kit). List·Memᴰ z (putKit (kit r t) (held N))) (sym e) (put-new (kit r t) (held N)))))
+        (subst (λ (z : Kit). List·Memᴰ z (putKit (kit r t) (held N))) (sym e) (put-new comesBefore (kit r t) (held N)))))
         (λ j. y .entered x j)
         (List·Memᴰ·cases-cons m);
-    kept = λ x m. y .kept x (subst (List·Memᴰ x) (sym is-held) (put-old (kit r t) x (held N) m));
+    kept = λ x m. y .kept x (subst (List·Memᴰ x) (sym is-held) (put-old comesBefore (kit r t) x (held N) m));
   }
 
 fill-none : {parts : ℕ} (N : List ℕ) → Sound parts N → Filled parts N [] (enterAll N [])

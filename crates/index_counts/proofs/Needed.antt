@@ -12,11 +12,11 @@ use Rattle.ground.specs.Calls.{numberOf, answer}
 use Rattle.ground.proofs.Laws.{length-map-from, le-or}
 use Rattle.nodes.specs.Nodes.{depth, rowOf, freeNodes}
 use Rattle.nodes.specs.Inner.{Used, Shape, Sound}
-use Rattle.nodes.specs.Held.{Kit, putKit, held, tagIn, allBeginnings}
+use Rattle.nodes.specs.Held.{Kit, comesBefore, putKit, held, tagIn, allBeginnings}
 use Rattle.nodes.proofs.Lists.{same-or}
 use Rattle.nodes.proofs.Sorted.{Rising, mem-every, rising-append, rising-from, rising-refine, rising-mapped, from-mem, mem-from, same-length}
 use Rattle.nodes.proofs.Rows.{climb, row-length, deep-used, Ancestor, ancestor}
-use Rattle.nodes.proofs.Listing.{put-mem, put-new, put-old}
+use Rattle.nodes.proofs.Ordered.{put-mem, put-new, put-old}
 use Rattle.nodes.proofs.Held.{kit}
 use Rattle.nodes.proofs.Beginnings.{Part, Begun, beginnings-differ, beginnings-begun, begun-beginnings, used-begun, begun-used}
 use Rattle.index_insert.specs.Enter.{lacks}
@@ -101,12 +101,12 @@ module _ {parts : ℕ} {N : List ℕ} (So : Sound parts N) (r : List ℕ) (t : �
       (λ (k : List·Memᴰ a L). let j = longer a k in
       record {
         whole = kit r t;
-        there = put-new (kit r t) (held N);
+        there = put-new comesBefore (kit r t) (held N);
         part =
             record { long = j .long; some-unit = omega (arith, j .more); most = j .most; is = j .is };
       })
       (λ (k : List·Memᴰ a B). let b = beginnings-begun (held N) a k in
-      record { whole = b .whole; there = put-old (kit r t) (b .whole) (held N) (b .there); part = b .part })
+      record { whole = b .whole; there = put-old comesBefore (kit r t) (b .whole) (held N) (b .there); part = b .part })
       (List·Memᴰ·append-cases L m))
 
   from-row : (a : List ℕ) → Part r a → List·Memᴰ a (L ++ B)
@@ -121,7 +121,7 @@ module _ {parts : ℕ} {N : List ℕ} (So : Sound parts N) (r : List ℕ) (t : �
       ⊎-elim
       (λ (e : b .whole ≡ kit r t). from-row a (subst (λ (k : Kit). Part (k .row) a) e (b .part)))
       (λ k. Memᴰ·append-right L (begun-beginnings (held N) a (record { whole = b .whole; there = k; part = b .part })))
-      (put-mem (kit r t) (b .whole) (held N) (b .there))
+      (put-mem comesBefore (kit r t) (b .whole) (held N) (b .there))
 
   long-is : length L ≡ length r - d
   unfolding L

@@ -8,7 +8,7 @@ use lib.ListN.{length}
 use lib.Dec.{eqb}
 use Rattle.ground.specs.Lists.{anyb, keep, from, firstOr}
 use Rattle.ground.proofs.Laws.{firstFrom-here, firstFrom-on, firstFrom-end}
-use Rattle.nodes.specs.Nodes.{label, tag, size, nodesOf, isFree, freeNodes}
+use Rattle.nodes.specs.Nodes.{label, tag, size, nodesOf, isFree}
 use Rattle.nodes.specs.Inner.{Shape, bears, tagBorne}
 use Rattle.nodes.proofs.Lists.{never, anyFrom-yes, anyFrom-no, anyFrom-end, countFrom-yes, countFrom-no, countFrom-end}
 use Rattle.nodes.proofs.Fields.{root-not-free, bears-yes, bears-no, from-root, borne-is, free-are}

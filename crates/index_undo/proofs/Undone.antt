@@ -9,9 +9,10 @@ use Rattle.ground.proofs.Calls.{leaves-done}
 use Rattle.kits.specs.Inner.{GoodRow}
 use Rattle.nodes.specs.Nodes.{rowOf}
 use Rattle.nodes.specs.Inner.{Used, Sound}
-use Rattle.nodes.specs.Held.{Kit, held, tagIn, dropKit}
+use Rattle.nodes.specs.Held.{Kit, comesBefore, held, tagIn, dropKit}
 use Rattle.nodes.proofs.Sorted.{Every, mem-every}
-use Rattle.nodes.proofs.Listing.{OtherRow, put-new, drop-put, tag-in}
+use Rattle.nodes.proofs.Listing.{OtherRow, drop-put, tag-in}
+use Rattle.nodes.proofs.Ordered.{put-new}
 use Rattle.nodes.proofs.Held.{Holds, kit, held-holds, held-tag, held-rows-differ}
 use Rattle.nodes.proofs.Beginnings.{Begun, used-begun}
 use Rattle.index_insert.specs.Enter.{enter}
@@ -32,7 +33,7 @@ module _ {parts : ℕ} {N r : List ℕ} {t : ℕ} (So : Sound parts N) (G : Good
   tag-entered : tagIn r (held (enter N r t)) ≡ t
   tag-entered =
       tag-in (kit r t) (held (enter N r t)) (held-rows-differ (entered-sound .shape))
-      (subst (List·Memᴰ (kit r t)) (sym (held-after-insert So G g A)) (put-new (kit r t) (held N)))
+      (subst (List·Memᴰ (kit r t)) (sym (held-after-insert So G g A)) (put-new comesBefore (kit r t) (held N)))
 
   entered-held : tagIn r (held (enter N r t)) ≢ 0
   entered-held z = omega (arith, tag-entered)

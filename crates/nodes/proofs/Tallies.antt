@@ -21,6 +21,7 @@ use Rattle.nodes.specs.Inner.{Used, Live, Shape, Sound, total, walk}
 use Rattle.nodes.specs.Held.{Kit, comesBefore, putKit, inOrder, dropKit, beginsWith, countBeginning, kitAt, held}
 use Rattle.nodes.proofs.Sorted.{keep-short, keep-all, no-members, keep-same, keep-append, keep-mem, mem-keep, mem-from}
 use Rattle.nodes.proofs.Sorted.{rising-keep, rising-weaken, rising-from, same-length}
+use Rattle.nodes.proofs.Ordered.{put-sum, order-sum}
 use Rattle.nodes.proofs.Lists.{never, zero-or, same-or}
 use Rattle.nodes.proofs.Rows.{climb, used-pos, live-inside, up-ind, row-root, row-step, row-length, row-good, Ancestor, ancestor}
 use Rattle.nodes.proofs.Walk.{child-live, walk-none, walk-some, ind}
@@ -102,20 +103,14 @@ keep-one p x xs = go (p x)
     go true = omega arith
     go false = omega arith
 
-keep-put : (p : Kit → Bool) (k : Kit) (ks : List Kit) → length (keep p (putKit k ks)) ≡ length (keep p (k ∷ ks))
-unfolding putKit
-keep-put p k [] = refl
-keep-put p k (x ∷ xs) = go (comesBefore k x) (keep-put p k xs)
-  where
-    go : (b : Bool) → length (keep p (putKit k xs)) ≡ length (keep p (k ∷ xs)) →
-        length (keep p (cond b (k ∷ x ∷ xs) (x ∷ putKit k xs))) ≡ length (keep p (k ∷ x ∷ xs))
-    go true h = refl
-    go false h = omega (arith, keep-one p x (putKit k xs), h, keep-one p k xs, keep-one p k (x ∷ xs), keep-one p x xs)
+-- how many kits of a list begin with a row: one kit more, and all in order
+pub count-put : (r : List ℕ) (k : Kit) (ks : List Kit) → countBeginning r (putKit k ks) ≡ one-if (begins r (k .row)) + countBeginning r ks
+unfolding countBeginning beginsWith
+count-put r k ks = put-sum comesBefore (countBeginning r) (λ (x : Kit). one-if (begins r (x .row))) (keep-one (beginsWith r)) k ks
 
-keep-order : (p : Kit → Bool) (ks : List Kit) → length (keep p (inOrder ks)) ≡ length (keep p ks)
-unfolding inOrder
-keep-order p [] = refl
-keep-order p (k ∷ ks) = omega (arith, keep-put p k (inOrder ks), keep-one p k (inOrder ks), keep-order p ks, keep-one p k ks)
+pub count-in-order : (r : List ℕ) (ks : List Kit) → countBeginning r (inOrder ks) ≡ countBeginning r ks
+unfolding countBeginning beginsWith
+count-in-order r ks = order-sum comesBefore (countBeginning r) (λ (x : Kit). one-if (begins r (x .row))) (keep-one (beginsWith r)) ks
 
 keep-map : {A B : Type 0} (f : A → B) (p : B → Bool) (xs : List A) → length (keep p (map f xs)) ≡ length (keep (λ x. p (f x)) xs)
 unfolding keep
@@ -125,11 +120,11 @@ keep-map f p (x ∷ xs) = omega (arith, keep-one p (f x) (map f xs), keep-map f 
 module _ {parts : ℕ} {N : List ℕ} (S : Shape parts N) where
   -- the tagged nodes at or below a node are those of the kits held that begin with its row
   pub tags-under-held : (i : ℕ) → Live N i → tagsUnder N i ≡ length (keep (beginsWith (rowOf N i)) (held N))
-  unfolding tagsUnder held kitAt beginsWith
+  unfolding tagsUnder held kitAt beginsWith countBeginning
   tags-under-held i l =
       let T = keep (tagged N) (nodesOf N) in
       ap length (keep-same (isUnder N i) (λ (j : ℕ). begins (rowOf N i) (rowOf N j)) T (λ j m. under-begins S i j l (tagged-lives S j m)))
-      ∙ sym (keep-order (beginsWith (rowOf N i)) (map (kitAt N) T) ∙ keep-map (kitAt N) (beginsWith (rowOf N i)) T)
+      ∙ sym (count-in-order (rowOf N i) (map (kitAt N) T) ∙ keep-map (kitAt N) (beginsWith (rowOf N i)) T)
 
 ------------------------------------------------------------------------
 -- Under a node, by the walk: the node, and what the walk from its first child meets
@@ -248,10 +243,6 @@ module _ {parts : ℕ} {N : List ℕ} (S : Shape parts N) where
 ------------------------------------------------------------------------
 -- How many kits of a list begin with a row
 
-pub count-put : (r : List ℕ) (k : Kit) (ks : List Kit) → countBeginning r (putKit k ks) ≡ one-if (begins r (k .row)) + countBeginning r ks
-unfolding countBeginning beginsWith
-count-put r k ks = keep-put (beginsWith r) k ks ∙ keep-one (beginsWith r) k ks
-
 -- the kit with the row r, which is there, taken out
 pub count-drop : (s r : List ℕ) (k : Kit) (ks : List Kit) → List·Memᴰ k ks → r ≡ k .row →
     one-if (begins s r) + countBeginning s (dropKit r ks) ≡ countBeginning s ks
@@ -268,10 +259,6 @@ count-drop s r k (x ∷ ks) m e =
     (λ t. t)
     (List·Memᴰ·cases-cons m) in
     omega (arith, keep-one (beginsWith s) x (dropKit r ks), keep-one (beginsWith s) x ks, count-drop s r k ks t e))
-
-pub count-in-order : (r : List ℕ) (ks : List Kit) → countBeginning r (inOrder ks) ≡ countBeginning r ks
-unfolding countBeginning
-count-in-order r ks = keep-order (beginsWith r) ks
 
 pub count-most : (r : List ℕ) (ks : List Kit) → countBeginning r ks ≤ length ks
 unfolding countBeginning

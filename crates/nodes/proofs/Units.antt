@@ -9,7 +9,7 @@ use lib.ListN.{length}
 use lib.Dec.{eqb}
 use mir.Val.{boolByte}
 use borrow.Author.Tests.{lt-ltb, ltb-true, le-ltb}
-use Rattle.ground.specs.Lists.{keep, eqList}
+use Rattle.ground.specs.Lists.{keep, eqList, putBy}
 use Rattle.ground.proofs.Laws.{eqList-true}
 use Rattle.kits.specs.Kits.{before, begins}
 use Rattle.kits.specs.Inner.{GoodRow}
@@ -76,7 +76,7 @@ units-behind {k} {ks} (ahead e s) = keep-all someUnit ks (λ x m. behind-some-un
 
 -- a kit with a unit put in its place
 pub units-put : (k : Kit) (ks : List Kit) → someUnit k ≡ true → withUnits (putKit k ks) ≡ putKit k (withUnits ks)
-unfolding putKit keep
+unfolding putBy keep
 units-put k [] u = units-yes k [] u
 units-put k (x ∷ xs) u = go (comesBefore k x) (someUnit x) refl refl (units-put k xs u)
   where

@@ -99,6 +99,8 @@ pub fn call(
         b's' => tells(catalogue::write_sheet(reg, nodes, output)),
         b'r' => tells(catalogue::read_sheet(reg, nodes, input)),
         b'S' => rescues(reg, nodes, input),
+        b'x' => tells(catalogue::write_card(reg, nodes, list, output)),
+        b'X' => tells(catalogue::read_card(reg, nodes, input)),
         b'g' => turns(reg, nodes, list, mark, false),
         b'G' => turns(reg, nodes, list, mark, true),
         _ => Called::Broken,

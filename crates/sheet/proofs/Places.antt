@@ -1,4 +1,4 @@
--- What stands in a sheet from a place on: two bytes, numbers, and kit records with their lists.
+-- What stands in a sheet from a place on: bytes, numbers, and kit records with their lists.
 use mathlib.Core.Path.{_≡_, refl, ap, sym, _∙_}
 use mathlib.Core.Bool.{Bool, true, false, cond}
 use mathlib.Core.List.{List, [], _∷_, _++_, append-assoc}
@@ -20,8 +20,14 @@ use Rattle.sheet.specs.Sheet.{lineBytes, lineWords, countAt, linesAt}
 use Rattle.sheet.specs.Inner.{recordWords, numbersAt, endAt, recordAt, recordEnd, lineCount, linesSize, listAt, WholeAt}
 use Rattle.sheet.specs.Reading.{numberSize, recordSize, linesRead, listIn, kitIn}
 
+-- what is dropped of what was taken
+pub drop-taken : (n m : ℕ) (l : List ℕ) → drop n (take (n + m) l) ≡ take m (drop n l)
+drop-taken zero m l = let e : zero + m ≡ m = omega arith in rw e
+drop-taken (suc n) m [] = let e : suc n + m ≡ suc (n + m) = omega arith in rw e (sym (take-nil m))
+drop-taken (suc n) m (x ∷ l) = let e : suc n + m ≡ suc (n + m) = omega arith in rw e (drop-taken n m l)
+
 ------------------------------------------------------------------------
--- Two bytes
+-- One byte and two
 
 pub two-value : (s : List ℕ) (at : ℕ) → at + twoBytes ≤ length s → fromBytes (take twoBytes (drop at s)) ≡ getD s at 0 * byteLimit + getD s (at + 1) 0
 unfolding valueFrom
@@ -29,6 +35,12 @@ two-value s at h =
     let d : drop at s ≡ getD s at 0 ∷ getD s (suc at) 0 ∷ drop (suc (suc at)) s = drop-cons s at 0 (omega arith) ∙ rw
     (drop-cons s (suc at) 0 (omega arith)) refl in
     rw (d, add-one at) (omega arith)
+
+pub one-value : (s : List ℕ) (at : ℕ) → at < length s → fromBytes (take 1 (drop at s)) ≡ getD s at 0
+unfolding valueFrom
+one-value s at h =
+    let d : drop at s ≡ getD s at 0 ∷ drop (suc at) s = drop-cons s at 0 h in
+    rw d (omega arith)
 
 ------------------------------------------------------------------------
 -- Numbers
@@ -59,22 +71,10 @@ module _ (s : List ℕ) (at : ℕ) where
   size-some = omega (arith, size-here)
 
   pub read-here : drop 1 (take (numberSize (drop at s)) (drop at s)) ≡ numberHere s at
-  read-here = rw (size-here) (drop-first (getD s at 0) (drop at s) ∙ rw (drop-drop) refl)
-    where
-      drop-first : (n : ℕ) (l : List ℕ) → drop 1 (take (1 + n) l) ≡ take n (drop 1 l)
-      drop-first n l = let e : 1 + n ≡ suc n = omega arith in rw e (go l)
-        where
-          go : (l : List ℕ) → drop 1 (take (suc n) l) ≡ take n (drop 1 l)
-          go [] = sym (take-nil n)
-          go (x ∷ l) = refl
+  read-here = rw (size-here) (drop-taken 1 (getD s at 0) (drop at s) ∙ rw (drop-drop) refl)
 
 ------------------------------------------------------------------------
 -- Kit records
-
-drop-taken : (n m : ℕ) (l : List ℕ) → drop n (take (n + m) l) ≡ take m (drop n l)
-drop-taken zero m l = let e : zero + m ≡ m = omega arith in rw e
-drop-taken (suc n) m [] = let e : suc n + m ≡ suc (n + m) = omega arith in rw e (sym (take-nil m))
-drop-taken (suc n) m (x ∷ l) = let e : suc n + m ≡ suc (n + m) = omega arith in rw e (drop-taken n m l)
 
 -- The lines of a record, whose places take w bytes
 module _ (w : ℕ) where

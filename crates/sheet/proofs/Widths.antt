@@ -1,7 +1,6 @@
 -- The version of so many parts, and the width of a place in it: what holds of one byte and of two holds of every width.
-use mathlib.Core.Path.{_≡_, refl, ap, _∙_}
+use mathlib.Core.Path.{_≡_, refl}
 use mathlib.Core.Bool.{Bool, true, false, cond}
-use mathlib.Core.Logic.{_⊎_, inl, inr}
 use Prim.Native.Nat.{ℕ, zero, suc, _+_, _*_, _/_, _^_, _≤_, _<_}
 use native.Mathlib.Nat.{suc-mul, mul-le-mul-right}
 use native.Mathlib.Omega.{arith}
@@ -9,7 +8,7 @@ use lib.Dec.{leb, eqb}
 use borrow.Author.Tests.{leb-true, leb-false, le-leb, eq-eqb}
 use Rattle.ground.specs.Limits.{byteLimit, mostParts}
 use Rattle.ground.specs.Lists.{anyb, every}
-use Rattle.sheet.specs.Bytes.{inBytes, valueFrom, fromBytes, two}
+use Rattle.sheet.specs.Bytes.{fromBytes, two}
 use Rattle.sheet.specs.Sheet.{mostNarrow, version, lineBytes}
 use Rattle.sheet.specs.Inner.{widest, Width}
 use Rattle.sheet.specs.Reading.{versions, isVersion, goodPartCount}

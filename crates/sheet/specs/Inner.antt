@@ -13,7 +13,7 @@ use Rattle.kits.specs.Kits.{goodList, listOf, before, mostUnits}
 use Rattle.nodes.specs.Held.{Kit, tagsOf}
 use Rattle.sheet.specs.Bytes.{two}
 use Rattle.sheet.specs.Sheet.{Contents, lineBytes, countAt, linesAt}
-use Rattle.sheet.specs.Reading.{recordSize, linesRead}
+use Rattle.sheet.specs.Reading.{Item, item, fault, recordSize, linesRead}
 
 -- behind the mark stand version and part count, and behind these the numbers begin
 abbrev pub versionAt : ℕ
@@ -76,6 +76,14 @@ kitOf r t = record { row = r; tag = t }
 -- a tag, a line count and the bytes of the lines
 unfoldable pub recordBytes : ℕ → ℕ → List ℕ → List ℕ
 recordBytes w t ls = two t ++ (length ls / lineBytes w ∷ ls)
+
+------------------------------------------------------------------------
+-- Items
+
+-- where an item ends; where it is at fault, where it starts
+unfoldable pub placeOf : Item (List ℕ) → ℕ
+placeOf (item a bs o) = o
+placeOf (fault o) = o
 
 ------------------------------------------------------------------------
 -- Numbers in a sheet

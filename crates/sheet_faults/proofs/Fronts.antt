@@ -14,15 +14,11 @@ use Rattle.sheet.specs.Sheet.{mark, markBytes, version, numberItem}
 use Rattle.sheet.specs.Reading.{Reading, _>>=_, give, one, bytes, anyTwo, isVersion, goodPartCount, numberSize, newNumber, numbers, Front, front}
 use Rattle.sheet.proofs.Numbers.{two-back, two-length}
 use Rattle.sheet.proofs.Widths.{version-good, count-good}
-use Rattle.sheet.proofs.Written.{NewNumbers, no-more, another, number-new, any-good}
+use Rattle.sheet.proofs.Written.{NewNumbers, no-more, another, number-new, number-as-long, any-good}
 use Rattle.sheet_faults.specs.Faults.{frontItems, announcing}
 use Rattle.sheet_faults.proofs.Cuts.{GoesOver, over-one, over-none, over-behind, over-given}
 
 -- a number with its length
-pub number-as-long : (n rest : List ℕ) → numberSize (numberItem n ++ rest) ≡ length (numberItem n)
-unfolding numberSize numberItem
-number-as-long n rest = omega arith
-
 number-cut-short : (n : List ℕ) (k : ℕ) → k < length (numberItem n) → k < numberSize (take k (numberItem n))
 unfolding numberSize numberItem
 number-cut-short n zero h = omega arith

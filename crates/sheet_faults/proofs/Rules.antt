@@ -15,10 +15,10 @@ use Rattle.sheet.specs.Reading.{item, fault, onward, one, bytes, isVersion, goo
 use Rattle.sheet.specs.Reading.{newKit, stop, unless, records, front, decode, isFault, said}
 use Rattle.sheet.proofs.Numbers.{two-back, two-length}
 use Rattle.sheet.proofs.Widths.{version-back, version-good, count-good}
-use Rattle.sheet.proofs.Written.{one-good, NewNumbers, no-more, another, number-new}
+use Rattle.sheet.proofs.Written.{one-good, NewNumbers, no-more, another, number-new, number-as-long}
 use Rattle.sheet_faults.specs.Faults.{partItems, widthOf, announcedItems, numberAtFault, recordAtFault}
 use Rattle.sheet_faults.specs.Faults.{FaultAtOpening, FaultAtNumber, FaultAtRecord}
-use Rattle.sheet_faults.proofs.Fronts.{afterNumbers, afterVersion, afterMark, number-as-long}
+use Rattle.sheet_faults.proofs.Fronts.{afterNumbers, afterVersion, afterMark}
 use Rattle.sheet_faults.proofs.Faults.{decode-fault, accepted-items}
 
 -- wherever it stands

@@ -13,11 +13,11 @@ use Rattle.ground.proofs.Laws.{anyb-append}
 use Rattle.repeats.specs.Inner.{numberHere, nextPlace}
 use Rattle.register.specs.Number.{goodNumber}
 use Rattle.sheet.specs.Reading.{Item, item, fault, onward, one, numberSize, newNumber, numbers}
-use Rattle.sheet.specs.Inner.{headBytes, numbersAt, endAt}
+use Rattle.sheet.specs.Inner.{headBytes, placeOf, numbersAt, endAt}
 use Rattle.sheet.proofs.Places.{end-last, numbers-at-last, numbers-many, size-here, size-some, read-here}
-use Rattle.sheet.proofs.Written.{one-bad}
-use Rattle.sheet_judge.specs.Inner.{placeOf, Numbered}
-use Rattle.sheet_judge.proofs.Front.{one-short, one-ok, place-fault, place-item, place-moved, place-stays, Moved}
+use Rattle.sheet.proofs.Written.{one-bad, numbers-all}
+use Rattle.sheet.proofs.Items.{one-short, one-ok, place-fault, place-item, place-moved, place-stays, Moved, all-faulty, all-next}
+use Rattle.sheet_judge.specs.Inner.{Numbered}
 
 any-cons : (p : List ℕ → Bool) (x : List ℕ) (xs : List (List ℕ)) → anyb p (x ∷ xs) ≡ (p x || anyb p xs)
 unfolding anyb
@@ -97,20 +97,6 @@ ahead-item : (pre ns : List (List ℕ)) (bs : List ℕ) (o : ℕ) → ahead pre 
 unfolding ahead
 ahead-item pre ns bs o = refl
 
-numbers-suc : (m : ℕ) (seen : List (List ℕ)) (bs b rest : List ℕ) (o p : ℕ) → one numberSize (newNumber seen) bs o ≡ item b rest p →
-    numbers (suc m) seen bs o ≡ onward (numbers m (drop 1 b ∷ seen) rest p) (λ ns bs o. item (drop 1 b ∷ ns) bs o)
-unfolding numbers onward
-numbers-suc m seen bs b rest o p e = rw e
-
-numbers-faulty : (m : ℕ) (seen : List (List ℕ)) (bs : List ℕ) (o : ℕ) → one numberSize (newNumber seen) bs o ≡ fault o →
-    numbers (suc m) seen bs o ≡ fault o
-unfolding numbers onward
-numbers-faulty m seen bs o e = rw e
-
-numbers-none : (seen : List (List ℕ)) (bs : List ℕ) (o : ℕ) → numbers 0 seen bs o ≡ item [] bs o
-unfolding numbers
-numbers-none seen bs o = refl
-
 turn-or : (a b : Bool) → (b || a) ≡ (a || (b || false))
 turn-or true true = refl
 turn-or true false = refl
@@ -145,7 +131,7 @@ module _ {s : List ℕ} {n k at : ℕ} (N : Numbering s n k at) where
         ns = numbersAt s headBytes k;
         many = numbers-many s headBytes k ∙ sym e;
         inside = N .inside;
-        goes = N .goes ∙ rw (z, numbers-none (N .seen) (drop at s) at, ahead-item (numbersAt s headBytes k) [] (drop at s) at, append-nil);
+        goes = N .goes ∙ rw (z, numbers-all .ends (N .seen) (drop at s) at, ahead-item (numbersAt s headBytes k) [] (drop at s) at, append-nil);
       }
 
   module _ (h : k < n) (r : ℕ) (p : r ≡ placeOf next) where
@@ -153,7 +139,7 @@ module _ {s : List ℕ} {n k at : ℕ} (N : Numbering s n k at) where
     numbering-fault e =
         let z : n - k ≡ suc (n - (k + 1)) = omega arith in
         let f = place-stays numberSize (newNumber (N .seen)) (drop at s) at r (size-some s at) p e in
-        N .goes ∙ rw (z, numbers-faulty (n - (k + 1)) (N .seen) (drop at s) at f) (ahead-fault (numbersAt s headBytes k) at)
+        N .goes ∙ rw (z, all-faulty numbers-all (n - (k + 1)) (N .seen) (drop at s) at f) (ahead-fault (numbersAt s headBytes k) at)
 
     module _ (f : (r ≡ at → ⊥)) where
       M : Moved numberSize (newNumber (N .seen)) (drop at s) at r
@@ -174,8 +160,8 @@ module _ {s : List ℕ} {n k at : ℕ} (N : Numbering s n k at) where
           let x = numberHere s at in
           let d : drop (numberSize (drop at s)) (drop at s) ≡ drop r s = drop-drop (numberSize (drop at s)) at s ∙ ap (λ (i : ℕ). drop i s)
           (sym (M .ends)) in
-          let g = numbers-suc (n - (k + 1)) (N .seen) (drop at s) (take (numberSize (drop at s)) (drop at s))
-          (drop (numberSize (drop at s)) (drop at s)) at (at + numberSize (drop at s)) (M .is) in
+          let g = all-next numbers-all (n - (k + 1)) (N .seen) (drop at s) at (take (numberSize (drop at s)) (drop at s))
+          (drop (numberSize (drop at s)) (drop at s)) (at + numberSize (drop at s)) (M .is) in
           let e = M .ends in
           let y = read-here s at in
           let b = rw (y, d, ← e) at g in

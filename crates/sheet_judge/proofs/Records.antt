@@ -22,9 +22,9 @@ use Rattle.nodes.specs.Held.{Kit}
 use Rattle.sheet.specs.Bytes.{fromBytes, twoBytes}
 use Rattle.sheet.specs.Reading.{fault, one, recordSize, follows, newKit}
 use Rattle.sheet.specs.Inner.{recordAt, recordEnd, listAt}
+use Rattle.sheet.proofs.Items.{one-short}
 use Rattle.sheet.proofs.Places.{size-at, list-is, tag-is, row-is}
 use Rattle.sheet_judge.specs.Inner.{goodLines, Tags, newTag, Latest}
-use Rattle.sheet_judge.proofs.Front.{one-short}
 
 regroup : (a b c d e : Bool) → (a && (not (not b) && (c && (d && (e && true))))) ≡ (((a && b) && (c && d)) && e)
 regroup false b c d e = refl

@@ -26,11 +26,11 @@ use Rattle.sheet.specs.declared.Sheet.{Sheet}
 use Rattle.sheet.proofs.Accepted.{records-back}
 use Rattle.sheet.proofs.Laws.{new-kits-rise}
 use Rattle.sheet.proofs.Written.{any-good}
+use Rattle.sheet.proofs.Items.{one-ok, bytes-short, bytes-ok}
 use Rattle.sheet.specs.Inner.{recordAt, listAt, WholeAt}
 use Rattle.sheet_judge.specs.Inner.{judgedOf, runTold, behindNumbers, Numbered, Tags, Latest, growth}
 use Rattle.sheet_judge.specs.declared.Judged.the-variants.{Fault, Runs}
 use Rattle.sheet_judge.specs.declared.Run.{Run}
-use Rattle.sheet_judge.proofs.Front.{one-ok, two-short, two-ok}
 use Rattle.sheet_judge.proofs.Growth.{growth-beginnings, lastRow, growth-last, last-row}
 use Rattle.sheet.proofs.Places.{size-at, tag-is, row-is}
 
@@ -214,14 +214,14 @@ module _ {w : ℕ} {s : List ℕ} {from parts n : ℕ} {marks : List ℕ} {prev 
 module _ (s : List ℕ) (at : ℕ) (ps : List (List ℕ)) where
   pub count-short : at ≤ length s → length s - at < 2 → Fault at ≡ judgedOf (behindNumbers ps (drop at s) at)
   unfolding judgedOf behindNumbers onward
-  count-short h k = let e = two-short anyTwo s at h k in rw e
+  count-short h k = let e = bytes-short twoBytes anyTwo s at h k in rw e
 
   pub count-read : (sheet : Sheet) (run : Run) → at + 2 ≤ length s → sheet .parts ≡ length ps → sheet .kits ≡ fromBytes (take twoBytes (drop at s)) →
       run ≡ runTold (records (placeBytes (sheet .parts)) (sheet .kits) (sheet .parts) [] (drop (at + 2) s) (at + 2)) →
       Runs sheet run ≡ judgedOf (behindNumbers ps (drop at s) at)
   unfolding behindNumbers onward judgedOf runTold salvaged runOf
   count-read sheet run h e f g =
-      let i = two-ok anyTwo s at h (any-good (take twoBytes (drop at s))) in
+      let i = bytes-ok twoBytes anyTwo s at h (any-good (take twoBytes (drop at s))) in
       rw i (ap₂ Runs (same-sheet e f) (rw (e, f) at g))
     where
       same-sheet : {n m : ℕ} → sheet .parts ≡ n → sheet .kits ≡ m → sheet ≡ record { parts = n; kits = m }

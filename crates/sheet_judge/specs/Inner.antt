@@ -15,7 +15,7 @@ use Rattle.kits.specs.Inner.{agreed}
 use Rattle.kits.specs.declared.Row.{Row}
 use Rattle.nodes.specs.Held.{Kit, allBeginnings}
 use Rattle.sheet.specs.Bytes.{fromBytes, twoBytes}
-use Rattle.sheet.specs.Inner.{headBytes}
+use Rattle.sheet.specs.Inner.{headBytes, placeOf}
 use Rattle.sheet.specs.Reading.{Item, item, fault, Reading, onward, one, bytes, anyTwo, numberSize, newNumber, numbers, hasTag, Front, runOf}
 use Rattle.sheet.specs.Reading.{Salvage, salvaged, salvage}
 use Rattle.sheet.specs.Reading as paper
@@ -70,11 +70,6 @@ pub record Numbered (s : List ℕ) (n at : ℕ) : Type 0 where
 abbrev pub numbersSay : List ℕ → ℕ → Read → Type 0
 numbersSay s n (read.Fault o) = numbers n [] (drop headBytes s) headBytes ≡ fault o
 numbersSay s n (read.Done at) = Numbered s n at
-
--- where an item ends; where it is at fault, where it starts
-unfoldable pub placeOf : Item (List ℕ) → ℕ
-placeOf (item a bs o) = o
-placeOf (fault o) = o
 
 -- where the number at a place ends, a good one; where it is cut short or not good, where it starts
 pub record NumberEnds (s : List ℕ) (at r : ℕ) : Type 0 where

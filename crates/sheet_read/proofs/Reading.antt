@@ -103,13 +103,20 @@ no-refusal : (w v : ℕ) → decide [] w ≡ done v → v ≡ w
 unfolding decide
 no-refusal w v e = cc
 
-pub accepted : (s : List ℕ) (T : Tables) (v : ℕ) → answer (readingInto s T) ≡ done v → Accepted s T v
-unfolding answer readingInto sheetRefusals roomRefusals
-accepted s T v e =
+pub room-given : (c : Contents) (slots nodes w v : ℕ) → decide (roomRefusals c slots nodes) w ≡ done v →
+    (slotsNeeded c ≤ slots) × (nodesNeeded c ≤ nodes) × (v ≡ w)
+unfolding roomRefusals
+room-given c slots nodes w v e =
     let a = done-passes _ _ _ _ e in
     let b = done-passes _ _ _ _ (a .1) in
-    let c = done-passes _ _ _ _ (b .1) in
-    record { faultless = a .0; slots = ltb-false _ _ (b .0); nodes = ltb-false _ _ (c .0); kits = no-refusal _ v (c .1) }
+    (ltb-false _ _ (a .0), ltb-false _ _ (b .0), no-refusal _ v (b .1))
+
+pub accepted : (s : List ℕ) (T : Tables) (v : ℕ) → answer (readingInto s T) ≡ done v → Accepted s T v
+unfolding answer readingInto sheetRefusals
+accepted s T v e =
+    let a = done-passes _ _ _ _ e in
+    let r = room-given (said (decode s)) _ _ _ v (a .1) in
+    record { faultless = a .0; slots = r .0; nodes = r .1; kits = r .2 }
 
 -- to drop an empty kit twice is to drop it once, and what is left needs as much room
 pub without-twice : (c : Contents) → withoutEmpty (withoutEmpty c) ≡ withoutEmpty c

@@ -6,7 +6,6 @@ use mathlib.Core.List.{List}
 use Prim.Native.Nat.{ℕ}
 use native.Mathlib.Omega.{arith}
 use lib.ListN.{length}
-use borrow.Author.Tests.{ltb-false}
 use Rattle.ground.specs.Calls.{done, answer, memory}
 use Rattle.ground.specs.Tables.{Tables}
 use Rattle.ground.proofs.Calls.{done-passes, leaves-done}
@@ -16,13 +15,13 @@ use Rattle.sheet.specs.Bytes.{Bytes}
 use Rattle.sheet.specs.Sheet.{Contents, withoutEmpty, encode}
 use Rattle.sheet.specs.Inner.{fitsSheet}
 use Rattle.sheet.specs.Reading.{Item, item, fault, decode, isFault, offset, said, Salvage, salvage, rescued}
-use Rattle.sheet.specs.Calls.{sheetRefusals, roomRefusals, salvageRefusals}
+use Rattle.sheet.specs.Calls.{sheetRefusals, salvageRefusals}
 use Rattle.sheet.proofs.Emptied.{fits-without}
 use Rattle.sheet.proofs.Laws.{fit-fitting, decode-encode}
 use Rattle.sheet.proofs.Torn.{rescued-torn, decode-of-fault, torn-or-whole}
 use Rattle.sheet_read.specs.Filling.{filling}
 use Rattle.sheet_read.specs.Inner.{readingInto, salvagingInto}
-use Rattle.sheet_read.proofs.Reading.{Has, filling-has, said-again, without-twice, roomy-without}
+use Rattle.sheet_read.proofs.Reading.{Has, filling-has, room-given, said-again, without-twice, roomy-without}
 
 no-offset : {A : Type 0} (m : Item A) → isFault m ≡ false → offset m ≡ 0
 unfolding isFault offset
@@ -52,18 +51,12 @@ module _ (s : List ℕ) (b : Bytes s) (T : Tables) (register-fits : registerLeng
 
   -- the parts and kits are those kept but for an empty one, and the tables are sound
   pub salvage-has : Has (withoutEmpty (rescued (salvage s) .kept)) T (memory (salvagingInto s T) T)
-  unfolding answer salvagingInto salvageRefusals roomRefusals
+  unfolding answer salvagingInto salvageRefusals
   salvage-has =
       let c : Contents = rescued (salvage s) .kept in
       let a = done-passes _ _ _ _ e in
-      let slots = done-passes _ _ _ _ (a .1) in
-      let nodes = done-passes _ _ _ _ (slots .1) in
-      let room = roomy-without c T (record {
-        register-fits = register-fits;
-        nodes-fit = nodes-fit;
-        slots = ltb-false _ _ (slots .0);
-        nodes = ltb-false _ _ (nodes .0);
-      }) in
+      let r = room-given c _ _ _ v (a .1) in
+      let room = roomy-without c T (record { register-fits = register-fits; nodes-fit = nodes-fit; slots = r .0; nodes = r .1 }) in
       subst (Has (withoutEmpty c) T) (sym salvage-leaves) (filling-has (withoutEmpty c) (fits-without c (kept-fits s b (a .0))) (without-twice c) T room)
 
 -- all of a faultless sheet is kept: "announced" counts an empty kit, and the offset is "the sheet's length"

@@ -19,10 +19,11 @@ use Rattle.register.proofs.Sound.{Holds, few-slots, ready-holds, holds-parts}
 use Rattle.register.proofs.Laws.{sound-is-built}
 use Rattle.nodes.specs.Nodes.{at, tagWord, size, nodesLength, nodesOf, tagged}
 use Rattle.nodes.specs.Inner.{Shape, Sound}
-use Rattle.nodes.specs.Held.{Kit, kitAt, held, listed, someUnit, withUnits}
+use Rattle.nodes.specs.Held.{Kit, comesBefore, kitAt, held, listed, someUnit, withUnits}
 use Rattle.nodes.proofs.Lists.{kept-and-not}
 use Rattle.nodes.proofs.Sorted.{Rising, rising-keep, rising-weaken, no-longer, from-mem, mem-allb}
-use Rattle.nodes.proofs.Listing.{OtherTag, earlier-other, order-mem}
+use Rattle.nodes.proofs.Listing.{OtherTag, earlier-other}
+use Rattle.nodes.proofs.Ordered.{order-mem}
 use Rattle.nodes.proofs.Held.{held-rises, held-holds, held-tags-differ}
 use Rattle.nodes.proofs.Units.{listed-mem, held-and-listed, listed-rises, listed-good, listed-tagged}
 use Rattle.sheet.specs.Bytes.{Bytes}
@@ -85,7 +86,7 @@ module _ {R N : List ℕ} (ready : Ready R) (sound : Sound (length (partsOf R)) 
         arith,
         no-longer (held N) (map (kitAt N) ends)
             (rising-weaken (λ a b h e. earlier-other a b h (ap (λ (k : Kit). k .row) e)) (held-rises (sound .shape)))
-            (λ k m. order-mem k (map (kitAt N) ends) m),
+            (λ k m. order-mem comesBefore k (map (kitAt N) ends) m),
         length-map ends (kitAt N),
         kept-and-not (tagged N) (λ i. not (tagged N i)) (λ i. refl) (from 0 (size N)),
         length-from 0 (size N),

@@ -1,50 +1,30 @@
--- The sheet of two sound tables: its items one behind the other, how many bytes they take, and what the writer's answers promise.
-use mathlib.Core.Path.{_≡_, refl, ap, sym, _∙_}
+-- The sheet of two sound tables: its items one behind the other, and how many bytes they take.
+use mathlib.Core.Path.{_≡_, refl, ap, sym}
 use mathlib.Core.Logic.{⊎-elim, _≢_}
-use mathlib.Core.Bool.{Bool, true, false, cond}
-use mathlib.Core.List.{List, [], _∷_, _++_, append-assoc}
-use Prim.Native.Nat.{ℕ, suc, _+_, _*_, _≤_, _<_}
+use mathlib.Core.List.{List, _++_, append-assoc}
+use Prim.Native.Nat.{ℕ, suc, _+_, _*_, _≤_}
 use native.Mathlib.Omega.{arith}
 use lib.ListN.{length, length-append}
-use Rattle.ground.specs.Laid.{Put}
 use Rattle.ground.specs.Lists.{from}
-use Rattle.ground.specs.Calls.{done, refused, Promise}
 use Rattle.ground.proofs.Laws.{length-from}
-use Rattle.ground.proofs.Calls.{set-down-full, set-down-done}
-use Rattle.kits.specs.Kits.{before, mostPlace}
+use Rattle.kits.specs.Kits.{mostPlace}
 use Rattle.register.specs.Register.{partsOf}
 use Rattle.register.specs.Inner.{Ready}
 use Rattle.register.proofs.Sound.{ready-holds, holds-parts}
 use Rattle.nodes.specs.Nodes.{tag, child, next, size, nodesOf, mostNodes, isUsed, usedNodes}
 use Rattle.nodes.specs.Inner.{Shape, Used, Live, walk, walkAll}
-use Rattle.nodes.specs.Held.{Kit, putKit, inOrder, listed}
+use Rattle.nodes.specs.Held.{listed}
 use Rattle.nodes.proofs.Beginnings.{used-walk}
 use Rattle.nodes.proofs.Units.{listed-is-walk}
 use Rattle.nodes.proofs.Lists.{same-or}
 use Rattle.nodes.proofs.Sorted.{keep-short}
 use Rattle.nodes.proofs.Walk.{ind, walk-some, root-child}
 use Rattle.sheet.specs.Bytes.{two}
-use Rattle.sheet.specs.Sheet.{Contents, contentsOf, mark, version, placeBytes, numberItems, recordItems, encodeAs, encode}
+use Rattle.sheet.specs.Sheet.{contentsOf, mark, version, placeBytes, numberItems, recordItems, encodeAs, encode}
 use Rattle.sheet.specs.Inner.{Width, mostRecord}
-use Rattle.sheet.specs.Calls.{writingOf}
 use Rattle.sheet.proofs.Numbers.{two-length}
 use Rattle.sheet_write.specs.Inner.{headItems, numbersFrom, kitsAt, recordsAt, ownRecord, recordsFrom, allRecords}
 use Rattle.sheet_write.proofs.Records.{own-none, own-length, row-most, from-none, from-some}
-
--- putting kits in order does not change their number
-put-more : (k : Kit) (ks : List Kit) → length (putKit k ks) ≡ 1 + length ks
-unfolding putKit
-put-more k [] = refl
-put-more k (x ∷ ks) = go (before (k .row) (x .row)) (put-more k ks)
-  where
-    go : (t : Bool) → length (putKit k ks) ≡ 1 + length ks → length (cond t (k ∷ x ∷ ks) (x ∷ putKit k ks)) ≡ 1 + length (x ∷ ks)
-    go true e = omega arith
-    go false e = omega arith
-
-pub order-many : (ks : List Kit) → length (inOrder ks) ≡ length ks
-unfolding inOrder
-order-many [] = refl
-order-many (k ∷ ks) = put-more k (inOrder ks) ∙ (omega (arith, order-many ks))
 
 module _ (w : ℕ) (N : List ℕ) where
   listed-records : Shape mostPlace N → recordItems w (listed N) ≡ allRecords w N
@@ -123,13 +103,3 @@ module _ (R N : List ℕ) (ready : Ready R) (n m : ℕ) (parts : n ≡ length (p
         length-append P (two k ++ K),
         length-append (two k) K,
       )
-
--- what the writer promises
-module _ (c : Contents) (o : List ℕ) (n : ℕ) (need : n ≡ length (encode c)) where
-  pub writing-12 : length o < n → Promise (writingOf c o) o (refused 12 n) o
-  unfolding writingOf
-  writing-12 h = rw need (set-down-full (encode c) o (omega (arith, need)))
-
-  pub writing-done : (m : List ℕ) (r : ℕ) → n ≤ length o → Put o 0 (encode c) r m → Promise (writingOf c o) o (done r) m
-  unfolding writingOf
-  writing-done m r h d = let e : r ≡ length (encode c) = omega (arith, d .behind) in rw (e, d .lies) (set-down-done (encode c) o (omega (arith, need)))

@@ -2,14 +2,12 @@
 // the tail of the output slice is lent on to the writer of each number or kit record. The bytes needed are counted first.
 ghost use mathlib.Core.Path.{_≡_};
 ghost use Prim.Native.Nat.{_+_, _*_, _<_, _≤_};
-ghost use lib.ListN.{length, getD};
+ghost use lib.ListN.{length};
 ghost use Rattle.ground.specs.Laid.{laid, Put};
 ghost use Rattle.ground.specs.Calls.{Promise};
 ghost use Rattle.answers.specs.Answers.{reply};
 ghost use Rattle.kits.specs.Kits.{mostUnits, mostPlace};
 ghost use Rattle.ground.specs.Limits.{mostParts, byteLimit};
-ghost use Rattle.register.specs.Register.{slotBytes, slotCount, numberAt};
-ghost use Rattle.register.specs.Number.{longestNumber};
 ghost use Rattle.register.specs.Inner.{Ready, Short};
 ghost use Rattle.nodes.specs.Nodes.{parent, mostNodes};
 ghost use Rattle.nodes.specs.Inner.{Used, Shape, Sound};
@@ -20,7 +18,6 @@ ghost use Rattle.sheet_write.specs.Inner.{nodeRow, headItems, numbersFro
 ghost use Rattle.sheet_write.specs.Inner.{noLine, endItem, withUnit, endOf, rowLines, Stands, EndsIn, Kept, endLine, Reached, StandsAbove};
 use answers::Answer;
 use ground::copy_in;
-use ground::wide8;
 use ground::wide16;
 use kits::MOST_UNITS;
 use nodes::child_at;
@@ -28,8 +25,8 @@ use nodes::label_at;
 use nodes::listed_count;
 use nodes::next_at;
 use nodes::tag_at;
-use register::SLOT_BYTES;
 use register::count_parts;
+use register::number_at;
 use repeats::LENGTH_BYTES;
 use sheet::LINES_AT;
 use sheet::QUANTITY_BYTES;
@@ -40,17 +37,6 @@ use sheet::put_kit;
 use sheet::put_line;
 use sheet::put_number;
 use sheet::put_two;
-
-// The number in slot k, as the stretch that holds it.
-fn number_in(reg: &[u8], k: usize) -> &[u8]
-    requires { ⌜ k < slotCount (now reg) ⌝ ∗ ⌜ getD (now reg) (k * slotBytes) 0 ≤ longestNumber ⌝ }
-    ensures { λ r. ⌜ now r ≡ numberAt (now (reg .entry)) k ⌝ ∗ ⌜ length (now r) ≤ longestNumber ⌝ }
-{
-    let at = k * SLOT_BYTES;
-    let start = at + 1;
-    let end = start + wide8(reg[at]);
-    &reg[start..end]
-}
 
 // The line that a row ends in: how many lines stand before it, its place and its quantity. In front of every row stands a line of
 // nothing, the root's, so that each row ends in one.
@@ -193,7 +179,7 @@ fn put_numbers(out: &mut [u8], reg: &[u8], n: usize) -> usize
     let mut at = 0;
     let mut k = 0;
     while k < n {
-        at += put_number(&mut out[at..], number_in(reg, k));
+        at += put_number(&mut out[at..], number_at(reg, k));
         k += 1;
     }
     at
@@ -207,7 +193,7 @@ fn numbers_size(reg: &[u8], n: usize) -> usize
     let mut total = 0;
     let mut k = 0;
     while k < n {
-        let num = number_in(reg, k);
+        let num = number_at(reg, k);
         total += LENGTH_BYTES + num.len();
         k += 1;
     }

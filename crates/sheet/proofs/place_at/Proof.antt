@@ -1,12 +1,12 @@
 -- Two bytes are the two-byte number there; one byte is itself.
-use mathlib.Core.Path.{_≡_, refl, _∙_}
-use mathlib.Core.List.{List, [], _∷_}
-use Prim.Native.Nat.{ℕ, suc, _+_, _*_, _≤_, _<_}
+use mathlib.Core.Path.{_≡_, sym, _∙_}
+use mathlib.Core.List.{List}
+use Prim.Native.Nat.{ℕ, _+_, _≤_}
 use native.Mathlib.Omega.{arith}
 use lib.ListN.{length, take, drop, getD}
-use lib.Seq.{drop-cons}
-use Rattle.sheet.specs.Bytes.{valueFrom, fromBytes, twoBytes}
+use Rattle.sheet.specs.Bytes.{fromBytes, twoBytes}
 use Rattle.sheet.specs.Inner.{Width}
+use Rattle.sheet.proofs.Places.{one-value}
 use borrow.Author.Needs.{needs}
 use Rattle.sheet.proofs.place_at.Statement.{statement}
 use Rattle.sheet.proofs.place_at.Tie as tie
@@ -15,11 +15,9 @@ wide-value : {w x : ℕ} (bs : List ℕ) → w ≡ 2 → x ≡ fromBytes (take t
 wide-value bs e h = rw e h
 
 narrow-value : {w : ℕ} (s : List ℕ) (at : ℕ) → Width w → (w ≡ 2 → ⊥) → at + w ≤ length s → getD s at 0 ≡ fromBytes (take w (drop at s))
-unfolding valueFrom
 narrow-value {w} s at h n k =
     let e : w ≡ 1 = omega (arith, h .some-byte, h .few-bytes) in
-    let d : drop at s ≡ getD s at 0 ∷ drop (suc at) s = drop-cons s at 0 (omega (arith, h .some-byte)) in
-    rw (e, d) (omega arith)
+    rw e (sym (one-value s at (omega (arith, h .some-byte))))
 
 two-at-requires : tie.Need-two-at-requires
 two-at-requires c κs = search needs

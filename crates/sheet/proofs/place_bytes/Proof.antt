@@ -2,7 +2,6 @@
 use mathlib.Core.Path.{_≡_, _∙_, sym}
 use Prim.Native.Nat.{ℕ}
 use Rattle.sheet.specs.Inner.{Width}
-use Rattle.sheet.specs.Sheet.{placeBytes}
 use Rattle.sheet.proofs.Widths.{version-width}
 use borrow.Author.Needs.{needs}
 use Rattle.sheet.proofs.place_bytes.Statement.{statement}

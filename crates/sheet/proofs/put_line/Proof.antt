@@ -1,5 +1,4 @@
 -- A quantity below 256 is a byte already, and stands behind the bytes of its place.
-use mathlib.Core.Path.{_≡_, refl}
 use native.Mathlib.Omega.{arith}
 use Rattle.ground.proofs.Put.{put-one, put-put}
 use Rattle.sheet.proofs.Numbers.{in-length}

@@ -1,7 +1,7 @@
 -- Of two bytes the high one is first; a place in one byte is its rest by 256.
-use mathlib.Core.Path.{_≡_, sym}
-use mathlib.Core.List.{List, [], _∷_}
-use Prim.Native.Nat.{ℕ, _%_, _≤_, _<_}
+use mathlib.Core.Path.{_≡_}
+use mathlib.Core.List.{List}
+use Prim.Native.Nat.{ℕ, _%_}
 use native.Mathlib.Omega.{arith}
 use lib.ListN.{set}
 use Rattle.ground.specs.Limits.{byteLimit}

@@ -8,7 +8,8 @@ use borrow.Author.Tests.{not-true, not-false}
 use Rattle.repeats.specs.Inner.{numberHere, nextPlace}
 use Rattle.register.specs.Number.{goodNumber}
 use Rattle.sheet.specs.Reading.{one, numberSize, newNumber}
-use Rattle.sheet_judge.specs.Inner.{placeOf, NumberEnds}
+use Rattle.sheet.specs.Inner.{placeOf}
+use Rattle.sheet_judge.specs.Inner.{NumberEnds}
 use Rattle.sheet_judge.proofs.Numbers.{number-none, number-cut, number-bad}
 use borrow.Author.Needs.{needs}
 use Rattle.sheet_judge.proofs.number_end.Statement.{statement}

@@ -23,16 +23,16 @@ abbrev μ-loop : tie.MeasureT-loop
 loop-holds : tie.Need-loop-holds Inv-loop μ-loop
 loop-holds c = (omega arith, c .before .pre .1, rw sub-zero (omega arith), omega arith)
 
-number-in-requires : tie.Need-number-in-requires Inv-loop μ-loop
-number-in-requires c κs =
+number-at-requires : tie.Need-number-at-requires Inv-loop μ-loop
+number-at-requires c κs =
     let start : tie.Start Inv-loop μ-loop = search in
     (omega (arith, start .pre .0 .inside), start .pre .0 .short (c .before .loop .k) (omega arith))
 
 add-total : tie.Need-add-total Inv-loop μ-loop
-add-total c = omega (arith, c .number-in .ensures .1)
+add-total c = omega (arith, c .number-at .ensures .1 .1)
 
 add-total-2 : tie.Need-add-total-2 Inv-loop μ-loop
-add-total-2 c = omega (arith, c .number-in .ensures .1)
+add-total-2 c = omega (arith, c .number-at .ensures .1 .1)
 
 add-k : tie.Need-add-k Inv-loop μ-loop
 add-k c = omega arith
@@ -49,8 +49,8 @@ loop-again c =
     let s = ap length (numbers-step R n k (omega arith)) in
     let a = length-append (numberItem (numberAt R k)) (numbersFrom R (k + 1) (n - (k + 1))) in
     let z = number-size (numberAt R k) in
-    let e : length (c .number-in .result .now) ≡ length (numberAt R k) = ap length (c .number-in .ensures .0) in
-    (omega arith, omega arith, omega arith, omega (arith, c .number-in .ensures .1))
+    let e : length (c .number-at .result .now) ≡ length (numberAt R k) = ap length (c .number-at .ensures .1 .0) in
+    (omega arith, omega arith, omega arith, omega (arith, c .number-at .ensures .1 .1))
 
 returns : tie.Need-returns Inv-loop μ-loop
 returns c =
@@ -67,7 +67,7 @@ numbers-size-spec =
     Inv-loop
     μ-loop
     loop-holds
-    number-in-requires
+    number-at-requires
     add-total
     add-total-2
     add-k

@@ -42,8 +42,8 @@ ends : (c : tie.After-slice-known2 Inv-loop μ-loop) →
     let in-loop : tie.In-loop Inv-loop μ-loop = search in
     c .before .before .put-number .result ≡ length (item in-loop)
 ends c =
-    let at-number-in : tie.After-number-in Inv-loop μ-loop = search in
-    rw (← at-number-in .number-in .ensures .0) (omega (arith, c .before .before .put-number .ensures .behind))
+    let at-number-at : tie.After-number-at Inv-loop μ-loop = search in
+    rw (← at-number-at .number-at .ensures .1 .0) (omega (arith, c .before .before .put-number .ensures .behind))
 
 loop-holds : tie.Need-loop-holds Inv-loop μ-loop
 loop-holds c =
@@ -62,15 +62,15 @@ part-put-number-start c = omega (arith, rest-inside (item c) (rest c) (going c))
 part-put-number-end : tie.Need-part-put-number-end Inv-loop μ-loop
 part-put-number-end c = omega arith
 
-number-in-requires : tie.Need-number-in-requires Inv-loop μ-loop
-number-in-requires c κs =
+number-at-requires : tie.Need-number-at-requires Inv-loop μ-loop
+number-at-requires c κs =
     let start : tie.Start Inv-loop μ-loop = search in
     (omega (arith, start .pre .0 .inside), start .pre .0 .short (c .before .before .loop .k) (omega arith))
 
 put-number-requires : tie.Need-put-number-requires Inv-loop μ-loop
 put-number-requires c κs =
     let in-loop : tie.In-loop Inv-loop μ-loop = search in
-    (c .number-in .ensures .1, rw (c .number-in .ensures .0) (rest-fits (item in-loop) (rest in-loop) (going in-loop)))
+    (c .number-at .ensures .1 .1, rw (c .number-at .ensures .1 .0) (rest-fits (item in-loop) (rest in-loop) (going in-loop)))
 
 add-at : tie.Need-add-at Inv-loop μ-loop
 add-at c =
@@ -87,11 +87,11 @@ loop-less c = omega arith
 loop-again : tie.Need-loop-again Inv-loop μ-loop
 loop-again c =
     let at-put-number : tie.After-put-number Inv-loop μ-loop = search in
-    let at-number-in : tie.After-number-in Inv-loop μ-loop = search in
+    let at-number-at : tie.After-number-at Inv-loop μ-loop = search in
     let in-loop : tie.In-loop Inv-loop μ-loop = search in (
       omega arith,
       rest-lent (item in-loop) (rest in-loop) (going in-loop) {last = at-put-number .put-number .last .0}
-          (rw (← at-number-in .number-in .ensures .0) (at-put-number .put-number .ensures)),
+          (rw (← at-number-at .number-at .ensures .1 .0) (at-put-number .put-number .ensures)),
     )
 
 same-length : tie.Need-same-length Inv-loop μ-loop
@@ -113,7 +113,7 @@ put-numbers-spec =
     sub-put-number
     part-put-number-start
     part-put-number-end
-    number-in-requires
+    number-at-requires
     put-number-requires
     add-at
     add-k

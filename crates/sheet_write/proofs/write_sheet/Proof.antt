@@ -7,8 +7,10 @@ use Rattle.ground.proofs.Put.{put-length}
 use Rattle.register.proofs.Sound.{ready-short}
 use Rattle.nodes.specs.Held.{listed}
 use Rattle.sheet.specs.Sheet.{encode, contentsOf}
+use Rattle.sheet.specs.Calls.{writingOf}
+use Rattle.sheet.proofs.Down.{down-12, down-done}
 use Rattle.sheet_write.specs.Inner.{allRecords}
-use Rattle.sheet_write.proofs.Whole.{sheet-size, writing-12, writing-done}
+use Rattle.sheet_write.proofs.Whole.{sheet-size}
 use Rattle.sheet_write.proofs.write_sheet.Statement.{statement}
 use Rattle.sheet_write.proofs.write_sheet.Tie as tie
 
@@ -68,9 +70,10 @@ add-need-3 : tie.Need-add-need-3
 add-need-3 c = omega arith
 
 returns : tie.Need-returns
+unfolding writingOf
 returns c =
     let start : tie.Start = search in
-    writing-12 (contentsOf (start .args .reg .now) (start .args .nodes .now)) (start .args .out .now) _ (need (c .before))
+    down-12 (encode (contentsOf (start .args .reg .now) (start .args .nodes .now))) (start .args .out .now) _ (need (c .before))
     (c .if1 .taken)
 
 cast-new : tie.Need-cast-new
@@ -112,12 +115,13 @@ same-length c =
     put-length (c .before .before .put-items .ensures)
 
 returns-2 : tie.Need-returns-2
+unfolding writingOf
 returns-2 c =
     let at-put-items : tie.After-put-items = search in
     let else1 : tie.Else1 = search in
     let at-records-size : tie.After-records-size = search in
     let start : tie.Start = search in
-    writing-done (contentsOf (start .args .reg .now) (start .args .nodes .now)) (start .args .out .now) _ (need at-records-size) _
+    down-done (encode (contentsOf (start .args .reg .now) (start .args .nodes .now))) (start .args .out .now) _ (need at-records-size) _
     (at-put-items .put-items .result) (else1 .if1 .left) (at-put-items .put-items .ensures)
 
 pub write-sheet-spec : {M : Type 1} → statement M

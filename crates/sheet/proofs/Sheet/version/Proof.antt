@@ -1,7 +1,6 @@
 -- The comparison is the definition's own test.
-use mathlib.Core.Path.{_≡_, refl}
+use mathlib.Core.Path.{refl}
 use borrow.Author.Tests.{le-leb, lt-leb}
-use Prim.Native.Nat.{ℕ}
 use native.Mathlib.Omega.{arith}
 use Rattle.sheet.specs.Sheet.{mostNarrow, version}
 use Rattle.sheet.proofs.Sheet.version.Statement.{statement}

@@ -1,0 +1,2 @@
+-- Request 5: the judge of a card.
+pub mod Inner

@@ -1,0 +1,2 @@
+-- Request 5, "read a card into the index".
+pub mod Inner

@@ -1,0 +1,4 @@
+-- Laws of the writer.
+pub mod Lines
+pub mod Sorting
+pub mod Whole
