@@ -206,46 +206,30 @@ fn judge_records(s: &[u8], from: usize, sheet: Sheet) -> Run
     let mut tags = [0; TAGS];
     let mut prev = no_row();
     let mut nodes: usize = 1;
-    let mut at = from;
-    let mut k = 0;
-    while k < n {
-        let next = record_end(s, at, w);
-        if next == at {
-            return Run {
-                kept: k,
-                nodes,
-                end: at,
-            };
+    let mut end = from;
+    let mut kept = 0;
+    while kept < n {
+        let next = record_end(s, end, w);
+        if next == end {
+            return Run { kept, nodes, end };
         }
-        let tag = wide16(two_at(s, at));
-        let words = list_words(s, at);
-        let list = list_in(s, at, w);
+        let tag = wide16(two_at(s, end));
+        let words = list_words(s, end);
+        let list = list_in(s, end, w);
         if !record_good(tag, &tags, &list[0..words], parts) {
-            return Run {
-                kept: k,
-                nodes,
-                end: at,
-            };
+            return Run { kept, nodes, end };
         }
         let row = row_of(&list[0..words]);
-        if !comes_after(prev, row, k) {
-            return Run {
-                kept: k,
-                nodes,
-                end: at,
-            };
+        if !comes_after(prev, row, kept) {
+            return Run { kept, nodes, end };
         }
         nodes += row.len - agree(prev, row);
         tags[tag] = 1;
         prev = row;
-        at = next;
-        k += 1;
+        end = next;
+        kept += 1;
     }
-    Run {
-        kept: k,
-        nodes,
-        end: at,
-    }
+    Run { kept, nodes, end }
 }
 
 // The kit count behind n numbers, and the run of records.

@@ -44,14 +44,14 @@ moved : (c : tie.Else1 Inv-loop μ-loop) →
     let at-place-bytes : tie.After-place-bytes Inv-loop μ-loop = search in
     let w = at-place-bytes .place-bytes .result in
     let start : tie.Start Inv-loop μ-loop = search in
-    WholeAt w (start .args .s .now) (at-loop .loop .at)
-    × (c .before .record-end .result ≡ at-loop .loop .at + recordSize w (drop (at-loop .loop .at) (start .args .s .now)))
+    WholeAt w (start .args .s .now) (at-loop .loop .end)
+    × (c .before .record-end .result ≡ at-loop .loop .end + recordSize w (drop (at-loop .loop .end) (start .args .s .now)))
 moved c =
     let at-loop : tie.At-loop Inv-loop μ-loop = search in
     let at-place-bytes : tie.After-place-bytes Inv-loop μ-loop = search in
     let w = at-place-bytes .place-bytes .result in
     let start : tie.Start Inv-loop μ-loop = search in
-    end-moved w (start .args .s .now) (at-loop .loop .at) (c .before .record-end .result) (c .before .record-end .ensures)
+    end-moved w (start .args .s .now) (at-loop .loop .end) (c .before .record-end .result) (c .before .record-end .ensures)
     (at-loop .loop .inv .2 .inside) (c .if1 .left)
 
 -- the words that are lent are the record's list
@@ -60,20 +60,20 @@ part : (c : tie.After-list-in Inv-loop μ-loop) →
     let at-place-bytes : tie.After-place-bytes Inv-loop μ-loop = search in
     let w = at-place-bytes .place-bytes .result in
     let start : tie.Start Inv-loop μ-loop = search in
-    take (c .before .list-words .result - 0) (drop 0 (c .list-in .result)) ≡ listAt w (start .args .s .now) (at-loop .loop .at)
+    take (c .before .list-words .result - 0) (drop 0 (c .list-in .result)) ≡ listAt w (start .args .s .now) (at-loop .loop .end)
 part c =
     let at-loop : tie.At-loop Inv-loop μ-loop = search in
     let at-place-bytes : tie.After-place-bytes Inv-loop μ-loop = search in
     let w = at-place-bytes .place-bytes .result in
     let start : tie.Start Inv-loop μ-loop = search in
     let n = c .before .list-words .ensures in
-    lent-list w (start .args .s .now) (at-loop .loop .at) (n .0) (n .1) (c .list-in .ensures)
+    lent-list w (start .args .s .now) (at-loop .loop .end) (n .0) (n .1) (c .list-in .ensures)
 
 -- its tag, as it is read
 tag : (c : tie.After-wide162 Inv-loop μ-loop) →
     let at-loop : tie.At-loop Inv-loop μ-loop = search in
     let start : tie.Start Inv-loop μ-loop = search in
-    c .wide162 .result ≡ fromBytes (take 2 (drop (at-loop .loop .at) (start .args .s .now)))
+    c .wide162 .result ≡ fromBytes (take 2 (drop (at-loop .loop .end) (start .args .s .now)))
 tag c = c .wide162 .ensures .0 ∙ c .before .two-at .ensures
 
 -- what makes it a new kit
@@ -82,21 +82,21 @@ asked : (c : tie.After-wide162 Inv-loop μ-loop) →
     let at-place-bytes : tie.After-place-bytes Inv-loop μ-loop = search in
     let w = at-place-bytes .place-bytes .result in
     let start : tie.Start Inv-loop μ-loop = search in
-    let l = listAt w (start .args .s .now) (at-loop .loop .at) in
-    newKit w (start .args .sheet .parts) (at-loop .loop .inv .2 .seen) (recordAt w (start .args .s .now) (at-loop .loop .at))
+    let l = listAt w (start .args .s .now) (at-loop .loop .end) in
+    newKit w (start .args .sheet .parts) (at-loop .loop .inv .2 .seen) (recordAt w (start .args .s .now) (at-loop .loop .end))
     ≡ ((newTag (at-loop .loop .tags) (c .wide162 .result) && goodLines (start .args .sheet .parts) l)
-    && (isZero (at-loop .loop .k) || before (unitsIn (at-loop .loop .prev)) (units l)))
+    && (isZero (at-loop .loop .kept) || before (unitsIn (at-loop .loop .prev)) (units l)))
 asked c =
     let at-loop : tie.At-loop Inv-loop μ-loop = search in
     let at-place-bytes : tie.After-place-bytes Inv-loop μ-loop = search in
     let w = at-place-bytes .place-bytes .result in
     let start : tie.Start Inv-loop μ-loop = search in
-    new-is w (start .args .s .now) (at-loop .loop .at) (start .args .sheet .parts) (at-loop .loop .inv .2 .seen)
+    new-is w (start .args .s .now) (at-loop .loop .end) (start .args .sheet .parts) (at-loop .loop .inv .2 .seen)
     (at-loop .loop .tags) (c .wide162 .result) (at-loop .loop .inv .2 .tags) (tag c) (c .wide162 .ensures .1) ∙ ap
     (λ (b : Bool). (newTag (at-loop .loop .tags) (c .wide162 .result)
-    && goodLines (start .args .sheet .parts) (listAt w (start .args .s .now) (at-loop .loop .at))) && b)
-    (latest-follows (at-loop .loop .prev) (at-loop .loop .k) (at-loop .loop .inv .2 .seen)
-    (units (listAt w (start .args .s .now) (at-loop .loop .at))) (at-loop .loop .inv .2 .latest))
+    && goodLines (start .args .sheet .parts) (listAt w (start .args .s .now) (at-loop .loop .end))) && b)
+    (latest-follows (at-loop .loop .prev) (at-loop .loop .kept) (at-loop .loop .inv .2 .seen)
+    (units (listAt w (start .args .s .now) (at-loop .loop .end))) (at-loop .loop .inv .2 .latest))
 
 -- its tag and its lines, as they are judged
 alone : (c : tie.After-record-good Inv-loop μ-loop) →
@@ -106,7 +106,7 @@ alone : (c : tie.After-record-good Inv-loop μ-loop) →
     let w = at-place-bytes .place-bytes .result in
     let start : tie.Start Inv-loop μ-loop = search in
     c .record-good .result ≡ (newTag (at-loop .loop .tags) (at-wide162 .wide162 .result)
-    && goodLines (start .args .sheet .parts) (listAt w (start .args .s .now) (at-loop .loop .at)))
+    && goodLines (start .args .sheet .parts) (listAt w (start .args .s .now) (at-loop .loop .end)))
 alone c =
     let at-list-in : tie.After-list-in Inv-loop μ-loop = search in
     let at-wide162 : tie.After-wide162 Inv-loop μ-loop = search in
@@ -121,7 +121,7 @@ short : (c : tie.Else2 Inv-loop μ-loop) →
     let at-place-bytes : tie.After-place-bytes Inv-loop μ-loop = search in
     let w = at-place-bytes .place-bytes .result in
     let start : tie.Start Inv-loop μ-loop = search in
-    length (units (listAt w (start .args .s .now) (at-loop .loop .at))) ≤ mostUnits
+    length (units (listAt w (start .args .s .now) (at-loop .loop .end))) ≤ mostUnits
 short c =
     let at-record-good : tie.After-record-good Inv-loop μ-loop = search in
     let at-wide162 : tie.After-wide162 Inv-loop μ-loop = search in
@@ -129,7 +129,7 @@ short c =
     let at-place-bytes : tie.After-place-bytes Inv-loop μ-loop = search in
     let w = at-place-bytes .place-bytes .result in
     let start : tie.Start Inv-loop μ-loop = search in
-    let l = listAt w (start .args .s .now) (at-loop .loop .at) in
+    let l = listAt w (start .args .s .now) (at-loop .loop .end) in
     lines-short (start .args .sheet .parts) l
     (and-right (newTag (at-loop .loop .tags) (at-wide162 .wide162 .result)) (goodLines (start .args .sheet .parts) l)
     (sym (alone at-record-good) ∙ not-false _ (c .if2 .left)))
@@ -139,7 +139,7 @@ row-is : (c : tie.After-row-of Inv-loop μ-loop) →
     let at-place-bytes : tie.After-place-bytes Inv-loop μ-loop = search in
     let w = at-place-bytes .place-bytes .result in
     let start : tie.Start Inv-loop μ-loop = search in
-    c .row-of .result ≡ fixedRow (units (listAt w (start .args .s .now) (at-loop .loop .at)))
+    c .row-of .result ≡ fixedRow (units (listAt w (start .args .s .now) (at-loop .loop .end)))
 row-is c =
     let at-list-in : tie.After-list-in Inv-loop μ-loop = search in
     c .row-of .ensures ∙ ap (λ (l : List ℕ). fixedRow (units l)) (part at-list-in)
@@ -154,13 +154,13 @@ back : (c : tie.After-row-of Inv-loop μ-loop) →
     let at-place-bytes : tie.After-place-bytes Inv-loop μ-loop = search in
     let w = at-place-bytes .place-bytes .result in
     let start : tie.Start Inv-loop μ-loop = search in
-    unitsIn (c .row-of .result) ≡ units (listAt w (start .args .s .now) (at-loop .loop .at))
+    unitsIn (c .row-of .result) ≡ units (listAt w (start .args .s .now) (at-loop .loop .end))
 back c =
     let at-loop : tie.At-loop Inv-loop μ-loop = search in
     let at-place-bytes : tie.After-place-bytes Inv-loop μ-loop = search in
     let w = at-place-bytes .place-bytes .result in
     let start : tie.Start Inv-loop μ-loop = search in
-    rw (row-is c) (row-back (units (listAt w (start .args .s .now) (at-loop .loop .at))))
+    rw (row-is c) (row-back (units (listAt w (start .args .s .now) (at-loop .loop .end))))
 
 long : (c : tie.After-row-of Inv-loop μ-loop) → length (unitsIn (c .row-of .result)) ≡ c .row-of .result .len
 long c = ap length (back c) ∙ sym (ap (λ (r : Row). r .len) (row-is c))
@@ -171,20 +171,20 @@ told : (c : tie.After-comes-after Inv-loop μ-loop) →
     let at-place-bytes : tie.After-place-bytes Inv-loop μ-loop = search in
     let w = at-place-bytes .place-bytes .result in
     let start : tie.Start Inv-loop μ-loop = search in
-    c .comes-after .result ≡ (isZero (at-loop .loop .k)
-    || before (unitsIn (at-loop .loop .prev)) (units (listAt w (start .args .s .now) (at-loop .loop .at))))
+    c .comes-after .result ≡ (isZero (at-loop .loop .kept)
+    || before (unitsIn (at-loop .loop .prev)) (units (listAt w (start .args .s .now) (at-loop .loop .end))))
 told c =
     let at-row-of : tie.After-row-of Inv-loop μ-loop = search in
     let at-wide162 : tie.After-wide162 Inv-loop μ-loop = search in
     let at-loop : tie.At-loop Inv-loop μ-loop = search in
-    c .comes-after .ensures ∙ ap (λ (u : List ℕ). isZero (at-loop .loop .k) || before (unitsIn (at-loop .loop .prev)) u) (back at-row-of)
+    c .comes-after .ensures ∙ ap (λ (u : List ℕ). isZero (at-loop .loop .kept) || before (unitsIn (at-loop .loop .prev)) u) (back at-row-of)
 
 good : (c : tie.Else3 Inv-loop μ-loop) →
     let at-loop : tie.At-loop Inv-loop μ-loop = search in
     let at-place-bytes : tie.After-place-bytes Inv-loop μ-loop = search in
     let w = at-place-bytes .place-bytes .result in
     let start : tie.Start Inv-loop μ-loop = search in
-    newKit w (start .args .sheet .parts) (at-loop .loop .inv .2 .seen) (recordAt w (start .args .s .now) (at-loop .loop .at)) ≡ true
+    newKit w (start .args .sheet .parts) (at-loop .loop .inv .2 .seen) (recordAt w (start .args .s .now) (at-loop .loop .end)) ≡ true
 good c =
     let at-comes-after : tie.After-comes-after Inv-loop μ-loop = search in
     let else2 : tie.Else2 Inv-loop μ-loop = search in
@@ -227,7 +227,7 @@ returns c =
     let at-shared-slice-known : tie.After-shared-slice-known Inv-loop μ-loop = search in
     let start : tie.Start Inv-loop μ-loop = search in
     judging-fault (at-loop .loop .inv .2) (bytes at-shared-slice-known) (at-wide16 .wide16 .ensures .0) (omega arith)
-    (end-stays w (start .args .s .now) (at-loop .loop .at) (c .before .record-end .result) (c .before .record-end .ensures)
+    (end-stays w (start .args .s .now) (at-loop .loop .end) (c .before .record-end .result) (c .before .record-end .ensures)
     (at-loop .loop .inv .2 .inside) (newKit w (start .args .sheet .parts) (at-loop .loop .inv .2 .seen)) (c .if1 .taken))
 
 two-at-requires : tie.Need-two-at-requires Inv-loop μ-loop
@@ -275,7 +275,7 @@ returns-2 c =
     let start : tie.Start Inv-loop μ-loop = search in
     judging-fault (at-loop .loop .inv .2) (bytes at-shared-slice-known) (at-wide16 .wide16 .ensures .0) (in-loop .loop-test .taken)
     (one-bad (recordSize w) (newKit w (start .args .sheet .parts) (at-loop .loop .inv .2 .seen))
-    (drop (at-loop .loop .at) (start .args .s .now)) (at-loop .loop .at)
+    (drop (at-loop .loop .end) (start .args .s .now)) (at-loop .loop .end)
     (first-bad _ _ (asked at-wide162) (sym (alone (c .before)) ∙ not-true _ (c .if2 .taken))))
 
 sub-row-of : tie.Need-sub-row-of Inv-loop μ-loop
@@ -308,12 +308,12 @@ returns-3 c =
     let start : tie.Start Inv-loop μ-loop = search in
     let at-wide16 : tie.After-wide16 Inv-loop μ-loop = search in
     let at-shared-slice-known : tie.After-shared-slice-known Inv-loop μ-loop = search in
-    let l = listAt w (start .args .s .now) (at-loop .loop .at) in
+    let l = listAt w (start .args .s .now) (at-loop .loop .end) in
     judging-fault (at-loop .loop .inv .2) (bytes at-shared-slice-known) (at-wide16 .wide16 .ensures .0) (in-loop .loop-test .taken)
     (one-bad (recordSize w) (newKit w (start .args .sheet .parts) (at-loop .loop .inv .2 .seen))
-    (drop (at-loop .loop .at) (start .args .s .now)) (at-loop .loop .at)
+    (drop (at-loop .loop .end) (start .args .s .now)) (at-loop .loop .end)
     (second-bad (newTag (at-loop .loop .tags) (at-wide162 .wide162 .result) && goodLines (start .args .sheet .parts) l)
-    (isZero (at-loop .loop .k) || before (unitsIn (at-loop .loop .prev)) (units l)) (asked at-wide162)
+    (isZero (at-loop .loop .kept) || before (unitsIn (at-loop .loop .prev)) (units l)) (asked at-wide162)
     (sym (told (c .before)) ∙ not-true _ (c .if3 .taken))))
 
 agree-requires : tie.Need-agree-requires Inv-loop μ-loop
@@ -348,8 +348,8 @@ array-write-tags c =
     let at-loop : tie.At-loop Inv-loop μ-loop = search in
     omega (arith, at-wide162 .wide162 .ensures .1, at-loop .loop .inv .2 .board)
 
-add-k : tie.Need-add-k Inv-loop μ-loop
-add-k c = omega arith
+add-kept : tie.Need-add-kept Inv-loop μ-loop
+add-kept c = omega arith
 
 loop-less : tie.Need-loop-less Inv-loop μ-loop
 loop-less c = omega arith
@@ -411,7 +411,7 @@ judge-records-spec =
     sub-nodes
     add-nodes
     array-write-tags
-    add-k
+    add-kept
     loop-less
     loop-again
     returns-4)
