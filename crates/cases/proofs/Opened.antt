@@ -38,11 +38,11 @@ use Rattle.card.specs.Calls.{unknown_refusals, card_refusals}
 use Rattle.tables.specs.Lent.{lengths, lent_both, lent_list}
 use Rattle.catalogue.specs.Calls.{plan_of, inserting, deleting, all_kits, almost_kits, any_kit, writing, emptying, finding, reading, counting, turning}
 use Rattle.catalogue.specs.Calls.{reading_card, salvaging, writing_card}
-use Rattle.demands.specs.Model.{begun, tables_of}
+use Rattle.demands.specs.Model.{begun, log, run, tables_of}
 use Rattle.demands.specs.Shop.{plan_of_shop, memory_of}
 
 unfoldable pub opened : Bool
-unfolding allb anyb every keep distinct concat put_by order_by eq_list from first_or laid decide answer leaves memory runs logs set_down set_both good_byte good_number
+unfolding allb anyb every keep distinct concat put_by order_by eq_list from first_or laid decide answer leaves memory run log runs logs set_down set_both good_byte good_number
     register_length slot_of slot_at number_in slot_good unused_at used_at number_at parts_of used_holds used_first unused_zero none_twice
     register_sound place_from place_in register_of lent_register punctuation_at_end number_refusals registering looking_up showing line_value line_faults
     lines_faults list_faults units count no_more includes before lines_from list_of case_test good_list begins nodes_length nodes_of others_of zero_word

@@ -10,7 +10,7 @@ use borrow.Author.Tests.{ltb-true, not-false}
 use Rattle.ground.specs.Limits.{two_limit}
 use Rattle.ground.specs.Lists.{keep, order_by}
 use Rattle.ground.specs.Laid.{zeroed}
-use Rattle.ground.specs.Calls.{Case, Reply, done, refused, is_refused, decide, answer, leaves, memory, logs, runs}
+use Rattle.ground.specs.Calls.{Case, Reply, done, refused, is_refused, decide, answer, leaves, memory}
 use Rattle.ground.proofs.Laws.{every_at}
 use Rattle.ground.proofs.Calls.{done_passes, leaves_done}
 use Rattle.register.specs.Register.{slot_bytes, parts_of, register_length}
@@ -343,7 +343,7 @@ call_keeps c T m y b = go (answer (plan_of c T)) refl
 
 -- Many calls
 pub calls_keep : (cs : List Call) (T : Tables) (m : Contents) → Every TypesSay cs → Brought T m → Brought (run cs T) (model (log cs T) m)
-unfolding runs logs model
+unfolding run log model
 calls_keep [] T m y b = b
 calls_keep (c ∷ cs) T m (also y ys) b = calls_keep cs (memory (plan_of c T) T) (step c (answer (plan_of c T)) m) ys (call_keeps c T m y b)
 

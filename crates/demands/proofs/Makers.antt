@@ -17,7 +17,7 @@ use Rattle.register.specs.Calls.{stretch_from, stretch_size}
 use Rattle.register.specs.Inner.{Ready}
 use Rattle.register.proofs.Sound.{few_slots, some_slot}
 use Rattle.register.proofs.Empty.{slots_fit}
-use Rattle.register.proofs.Answers.{part_there, showing_done}
+use Rattle.register.proofs.Answers.{showing_done}
 use Rattle.makers.specs.Makers.{beyond_zero, makers_length, makers_sound, zero_or_good}
 use Rattle.makers.specs.Calls.{Beside, MakerCall, beside_lengths, clear_maker, clearing_maker, lent_beside}
 use Rattle.makers.specs.Calls.{parts_beside, place_refusals, plan_of_maker, set_maker, setting_maker, show_label, showing_label, zero_makers, zeroing_makers}
@@ -178,7 +178,7 @@ module _ (p : ℕ) (B : Beside) (e : answer (showing_label p B) ≡ done 0) wher
   ours_read : read_at B.register (p - 1) ≡ get_or (parts_of B.register) (p - 1) []
   unfolding stretch_from stretch_size leaves
   ours_read =
-      let s = showing_done B.register found.lent.ready p (part_there (parts_beside B) p found.some found.held) in
+      let s = showing_done B.register found.lent.ready p found.some found.held in
       rw s at (shows_number B.register p s)
 
   label_is : {slots : ℕ} {ps : List (List ℕ)} {L : ℕ → List ℕ} → ShopHas slots ps L B → label_shown p B ≡ or_ours (L p) (get_or ps (p - 1) [])

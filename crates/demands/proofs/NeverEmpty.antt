@@ -5,7 +5,7 @@ use mathlib.Core.List.{List, [], ◌∷◌}
 use Prim.Native.Nat.{ℕ, ◌*◌}
 use lib.ListN.{replicate}
 use Rattle.ground.specs.Laid.{zeroed}
-use Rattle.ground.specs.Calls.{done, answer, memory, runs}
+use Rattle.ground.specs.Calls.{done, answer, memory}
 use Rattle.ground.specs.Tables.{Tables}
 use Rattle.register.specs.Calls.{registering, looking_up, showing}
 use Rattle.kits.specs.Kits.{units}
@@ -77,7 +77,7 @@ done_lists (write_card l o) T m v y e b all = all
 done_lists (read_card s) T m v y e b all = insert_lists (list_said s T) (tag_said s) T m v (card_inserts s T v e) b all
 
 calls_list : (cs : List Call) (T : Tables) (m : Contents) → Every TypesSay cs → Brought T m → AllListed T → AllListed (run cs T)
-unfolding runs
+unfolding run
 calls_list [] T m y b all = all
 calls_list (c ∷ cs) T m (also y ys) b all =
     calls_list cs (memory (plan_of c T) T) (step c (answer (plan_of c T)) m) ys (call_keeps c T m y b)

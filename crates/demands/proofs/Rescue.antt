@@ -11,7 +11,7 @@ use borrow.Author.Tests.{le-ltb, lt-ltb, ltb-false, ltb-true}
 use Rattle.ground.specs.Lists.{concat}
 use Rattle.ground.specs.Calls.{Plan, plan, Reply, done, refused, decide, answer, memory, number_of, value_of}
 use Rattle.ground.specs.Tables.{Tables}
-use Rattle.ground.proofs.Calls.{done_leaves, done_passes, refusal_keeps, decide_behind}
+use Rattle.ground.proofs.Calls.{done_passes, leaves_done, refusal_keeps, decide_behind}
 use Rattle.register.specs.Register.{register_length, slot_count}
 use Rattle.nodes.specs.Nodes.{nodes_length, size}
 use Rattle.nodes.specs.Held.{comes_before, some_unit}
@@ -143,8 +143,13 @@ salvage_exactly s T k h = (
   λ c. with_room_lem s T c.0 c.1 ∙ ap done (sym c.2),
 )
 
+-- the tables that a salvage leaves
+rescued_in_place : (s : List ℕ) (T : Tables) (k : ℕ) → answer (salvaging s T) ≡ done k → memory (salvaging s T) T ≡ (salvaging s T).after
+unfolding memory
+rescued_in_place s T k e = leaves_done (answer (salvaging s T)) k T (salvaging s T).after e
+
 pub salvage_has_kept : SalvageHasKept
-salvage_has_kept s T k h e = ap contents (done_leaves (salvaging s T) T k e) ∙ contents_had (what_was_rescued s T k h e)
+salvage_has_kept s T k h e = ap contents (rescued_in_place s T k e) ∙ contents_had (what_was_rescued s T k h e)
 
 both_right : (T : Tables) → (LengthWrong the_lengths T → ⊥) → (register_length T.register ≡ true) × (nodes_length T.nodes ≡ true)
 both_right T w = (right (register_length T.register) (λ e. w (inl e)), right (nodes_length T.nodes) (λ e. w (inr e)))
@@ -300,7 +305,7 @@ written_after s T o k h e r =
     let q : encode (listed_in (without_empty c)) ≡ encode (without_empty c) = ap encode
     (ap (has c.parts) (in_order_already comes_before (rising_keep some_unit c.kits (sheet_rises c fits)))) in
     let b : Brought (memory (salvaging s T) T) (without_empty c) = subst (λ (M : Tables). Brought M (without_empty c))
-    (sym (done_leaves (salvaging s T) T k e)) (rescue_kept s T k h e) in
+    (sym (rescued_in_place s T k e)) (rescue_kept s T k h e) in
     (rw q at (writes b o (rw q r)), (said_encoded (without_empty c) (fits_without c fits)).0)
 
 pub torn_not_accepted : TornNotAccepted

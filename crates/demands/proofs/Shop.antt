@@ -7,6 +7,7 @@ use Rattle.ground.proofs.Calls as calls
 use Prim.Native.Nat.{ℕ}
 use Rattle.makers.specs.Calls.{MakerCall, beside, plan_of_maker}
 use Rattle.catalogue.specs.Calls.{Call, plan_of}
+use Rattle.demands.specs.Model.{log, run}
 use Rattle.demands.specs.Shop.{CatalogueApart, LeftAlone, ShopMemory, ShopPinned, ShopRefusalKeeps, ShopRefusedExactly, catalogue_calls, catalogue_log}
 use Rattle.demands.specs.Shop.{beside_of, of_catalogue, of_makers, plan_of_shop, shop_memory}
 
@@ -40,7 +41,7 @@ left_alone c S = ap (λ (U : ShopMemory). U.makers) (catalogue_step c S.catalogu
 -- The catalogue in a shop is the catalogue alone.
 
 pub catalogue_apart : CatalogueApart
-unfolding runs logs answer plan_of_shop catalogue_calls catalogue_log
+unfolding run log runs logs answer plan_of_shop catalogue_calls catalogue_log
 catalogue_apart [] S = (refl, refl)
 catalogue_apart (of_catalogue c ∷ cs) S =
     let T = S.catalogue in

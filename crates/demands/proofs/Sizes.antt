@@ -4,7 +4,7 @@ use mathlib.Core.List.{List, [], ◌∷◌}
 use Prim.Native.Nat.{ℕ, ◌*◌}
 use native.Mathlib.Omega.{arith}
 use lib.ListN.{length, length-replicate}
-use Rattle.ground.specs.Calls.{Reply, done, refused, answer, leaves, memory, runs}
+use Rattle.ground.specs.Calls.{Reply, done, refused, answer, leaves, memory}
 use Rattle.ground.proofs.Calls.{leaves_done}
 use Rattle.register.specs.Register.{slot_bytes, slot_count}
 use Rattle.register.specs.Calls.{registering, looking_up, showing}
@@ -84,7 +84,7 @@ call_alike c T m y b = go (answer (plan_of c T)) refl
     go (refused n v) e = record { register = refl; nodes = refl }
 
 calls_alike : (cs : List Call) (T : Tables) (m : Contents) → Every TypesSay cs → Brought T m → Alike T (run cs T)
-unfolding runs
+unfolding run
 calls_alike [] T m y b = record { register = refl; nodes = refl }
 calls_alike (c ∷ cs) T m (also y ys) b =
     let f = call_alike c T m y b in

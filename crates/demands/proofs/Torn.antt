@@ -8,7 +8,7 @@ use lib.ListN.{length, get_or}
 use Rattle.ground.specs.Calls.{decide, answer}
 use Rattle.register.specs.Number.{good_number}
 use Rattle.register.specs.Register.{parts_of}
-use Rattle.register.proofs.Answers.{part_there, showing_done}
+use Rattle.register.proofs.Answers.{showing_done}
 use Rattle.register.proofs.Places.{number_good}
 use Rattle.register.proofs.Laws.{look_up_exactly}
 use Rattle.catalogue.specs.Calls.{register_part, plan_of}
@@ -33,4 +33,4 @@ held_found a p h some held =
     let n = get_or (entered a).parts (p - 1) [] in
     let here : get_or (parts_of R) (p - 1) [] ≡ n = ap (λ (ps : List (List ℕ)). get_or ps (p - 1) []) e in
     let good : good_number n ≡ true = ap good_number (sym here) ∙ number_good R b.both.ready (p - 1) placed in
-    ((look_up_exactly n R p b.both.ready good some).1 (inside, here), showing_done R b.both.ready p (part_there _ p some inside))
+    ((look_up_exactly n R p b.both.ready good some).1 (inside, here), showing_done R b.both.ready p some inside)

@@ -7,7 +7,7 @@ use Prim.Native.Nat.{ℕ, zero, suc, ◌≤◌, ◌<◌}
 use native.Mathlib.Omega.{arith}
 use lib.ListN.{length, replicate, take}
 use Rattle.ground.specs.Lists.{keep}
-use Rattle.ground.specs.Calls.{Reply, answer, decide, done, is_refused, leaves, memory, refused, value_of, runs}
+use Rattle.ground.specs.Calls.{Reply, answer, decide, done, is_refused, leaves, memory, refused, value_of}
 use Rattle.ground.specs.Tables.{Tables}
 use Rattle.kits.specs.Kits.{before, list_faults}
 use Rattle.kits.specs.Inner.{GoodRow}
@@ -72,7 +72,7 @@ module _ (question : Question) (l : List ℕ) (T : Tables) (a : Asked T l) where
       ((i : ℕ) (c : Bookmark) → n ≤ i → good_bookmark (part_count T) c ≡ true →
       pages_from n question l T c ≡ page_replies n i (following question l c T.nodes)) →
       pages_from (suc n) question l T b ≡ page_replies (suc n) (suc m) (following question l b T.nodes)
-  unfolding pages_among runs tags_of
+  unfolding pages_among run tags_of
   page_and_rest n m b h g rest = go (following question l b T.nodes) refl
     where
       says : (answer (turning question l T b) ≡ done (first_tag (following question l b T.nodes)))

@@ -1,6 +1,6 @@
 -- REQUEST 1: "a list of kits that a bin almost fills", in terms of what the accepted calls left: the kits are `answering (is_almost d)`, so
 -- what demand 2 says of every question holds of it, the fixed order and each kit once too.
-use Rattle.std.specs.Prelude.{◌≡◌, ◌↔◌, ◌+◌, ◌<◌, ◌≤◌, ℕ, drop, get_or, length, replicate}
+use Rattle.std.specs.Prelude.{◌≡◌, ◌↔◌, ◌<◌, ◌≤◌, ℕ, drop, get_or, length, replicate}
 use mathlib.Core.List.{List, Memᴰ, ◌++◌}
 use Rattle.ground.specs.Lists.{keep}
 use Rattle.ground.specs.Calls.{Both, answer, both, decide, done, memory}

@@ -3,13 +3,12 @@
 -- behind "Proof", in crates/demands/proofs.
 -- "ends and stays inside its memory", "No call relies on the caller having looked first": no public call has a `requires`, and the check of
 -- each function shows that it ends and stays inside its memory.
-use Rattle.std.specs.Prelude.{◌≡◌, ◌↔◌, ◌⊎◌, true, false, not, List, [], ◌++◌, ◌∷◌, ◌+◌, ◌-◌, ℕ, length, eqb, leb, ltb}
+use Rattle.std.specs.Prelude.{◌≡◌, ◌↔◌, ◌⊎◌, ◌||◌, true, false, not, List, [], ◌++◌, ◌∷◌, ◌+◌, ◌-◌, ℕ, length, eqb, leb, ltb}
 use Rattle.ground.specs.Lists.{anyb, is_zero}
 use Rattle.ground.specs.Calls.{Both, Case, Given, Plan, Reply, answer, decide, done, given, memory, number_of, refused, set_down}
 use Rattle.ground.specs.Tables.{Tables}
 use Rattle.register.specs.Number.{good_number, punctuation_at_end}
 use Rattle.register.specs.Register.{place_in, register_length, register_sound}
-use Rattle.register.specs.Calls.{no_part}
 use Rattle.kits.specs.Kits.{list_faults, most_units, units}
 use Rattle.nodes.specs.Nodes.{nodes_length}
 use Rattle.nodes.specs.Sound.{nodes_sound}
@@ -58,7 +57,7 @@ told slots room m (register_part n) = decide
     (length m.parts + 1)
 told slots room m (look_up n) =
     decide (given (not (good_number n)) 3 0 ∷ given (is_zero (place_in n m.parts)) 11 0 ∷ []) (place_in n m.parts)
-told slots room m (show_at p) = decide (given (no_part (length m.parts) p) 11 0 ∷ []) 0
+told slots room m (show_at p) = decide (given (is_zero p || ltb (length m.parts) p) 11 0 ∷ []) 0
 told slots room m (insert_kit l t) = decide
     (given (is_zero t) 8 0
     ∷ (list_faults (length m.parts) l

@@ -1,6 +1,6 @@
 -- DEMAND 2: "A kit fits a bin exactly when, for each part, the kit's quantity is no more than the bin's .. 'No kit fits' is said exactly when
 -- none held fits; a listing shows each fitting kit once, in the fixed order .. Part numbers are one only if every character agrees."
-use Rattle.std.specs.Prelude.{◌≡◌, ◌↔◌, true, ◌+◌, ◌-◌, ◌<◌, ◌≤◌, ℕ, drop, get_or, length, take}
+use Rattle.std.specs.Prelude.{◌≡◌, ◌↔◌, true, ◌-◌, ◌<◌, ◌≤◌, ℕ, drop, get_or, length, take}
 use mathlib.Core.List.{List, Memᴰ, [], ◌++◌, ◌∷◌}
 use Rattle.ground.specs.Calls.{answer, decide, done, is_refused, memory}
 use Rattle.ground.specs.Tables.{Tables}

@@ -1,10 +1,10 @@
 -- What a catalogue has, and what it is to answer: "what a catalogue has is what its accepted calls entered or read, less what later calls
 -- struck out, cleared or replaced by reading a sheet". Read off the calls and their replies, never off a table.
-use Rattle.std.specs.Prelude.{◌≡◌, not, ◌*◌, ◌+◌, ◌<◌, ◌≤◌, ℕ, get_or, length, replicate, ltb}
+use Rattle.std.specs.Prelude.{◌≡◌, not, ◌*◌, ◌<◌, ◌≤◌, ℕ, get_or, length, replicate, ltb}
 use mathlib.Core.List.{List, Memᴰ, [], ◌++◌, ◌∷◌}
 use Rattle.ground.specs.Limits.{most_parts, two_limit}
 use Rattle.ground.specs.Lists.{keep}
-use Rattle.ground.specs.Calls.{Both, Plan, Reply, done, given, logs, plan, refused, runs, set_both, set_down}
+use Rattle.ground.specs.Calls.{Both, Plan, Reply, answer, done, given, memory, plan, refused, set_both, set_down}
 use Rattle.ground.specs.Tables.{Tables, tables}
 use Rattle.register.specs.Register.{slot_bytes}
 use Rattle.kits.specs.Kits.{list_faults, units}
@@ -66,11 +66,13 @@ model [] m = m
 model (x ∷ xs) m = model xs (step x.0 x.1 m)
 
 -- the tables after some calls, and what was answered
-abbrev pub run : List Call → Tables → Tables
-run cs T = runs plan_of cs T
+unfoldable pub run : List Call → Tables → Tables
+run [] T = T
+run (c ∷ cs) T = run cs (memory (plan_of c T) T)
 
-abbrev pub log : List Call → Tables → List (Call × Reply)
-log cs T = logs plan_of cs T
+unfoldable pub log : List Call → Tables → List (Call × Reply)
+log [] T = []
+log (c ∷ cs) T = (c, answer (plan_of c T)) ∷ log cs (memory (plan_of c T) T)
 
 -- a call that reads s
 pub data ReadsBytes (s : List ℕ) : Call → Type 0 where

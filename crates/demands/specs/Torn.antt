@@ -14,7 +14,7 @@ TornRefused =
     (a : Catalogue) (n : List ℕ) → Allowed a → good_number n ≡ true → punctuation_at_end n ≡ true →
     answer (plan_of (register_part n) (tables_of a)) ≡ refused 16 0
 
--- [14.24] and every number that is held, whatever stands at its ends, is found at its place and shown. Proof: `held_Found`
+-- [14.24] and every number that is held, whatever stands at its ends, is found at its place and shown. Proof: `held_found`
 abbrev pub HeldFound : Type 0
 HeldFound =
     (a : Catalogue) (p : ℕ) → Allowed a → 0 < p → p ≤ length (entered a).parts →

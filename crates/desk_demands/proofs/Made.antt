@@ -9,7 +9,7 @@ use lib.Dec.{eqb, leb}
 use borrow.Author.Tests.{leb-true}
 use Rattle.ground.specs.Lists.{every, allb, anyb}
 use Rattle.ground.specs.Limits.{two_limit}
-use Rattle.ground.specs.Calls.{Plan, Reply, done, refused, answer, leaves, memory, runs}
+use Rattle.ground.specs.Calls.{Plan, Reply, done, refused, answer, leaves, memory}
 use Rattle.ground.specs.Tables.{Tables}
 use Rattle.ground.proofs.Laws.{by_cond, every_at, and_left}
 use Rattle.register.specs.Calls.{looking_up}
@@ -39,7 +39,7 @@ use Rattle.desk_demands.specs.Demands.{DeskIsCatalogue, DesksTell}
 -- The tables that calls leave
 
 run_append : (cs ds : List Call) (T : Tables) → run (cs ++ ds) T ≡ run ds (run cs T)
-unfolding runs
+unfolding run
 run_append [] ds T = refl
 run_append (c ∷ cs) ds T = run_append cs ds (memory (plan_of c T) T)
 
@@ -48,7 +48,7 @@ unfolding plan_of looking_up memory
 look_keeps n T = leaves_same (answer (plan_of (look_up n) T)) T
 
 lookups_keep : (fs : List (List ℕ)) (T : Tables) → run (lookups T.register fs) T ≡ T
-unfolding runs lookups leaves
+unfolding run lookups leaves
 lookups_keep [] T = refl
 lookups_keep (n ∷ []) T = refl
 lookups_keep (n ∷ q ∷ fs) T =
@@ -90,7 +90,7 @@ module _ (T : Tables) where
       (by_plan (eqb x letter.any_within) (any_within l) (any_containing l) (any_kit is_within l T) (any_kit is_containing l T) refl refl)))))
 
   behind_left : (x t : ℕ) (o : List ℕ) (r : Typed) → run (call_behind x t o r) T ≡ (with_list x T (asked x t [] T) r).after
-  unfolding runs call_behind with_list after_call
+  unfolding run call_behind with_list after_call
   behind_left x t o (typed l) = call_left x t o l
   behind_left x t o (stopped n v) = refl
 
@@ -108,7 +108,7 @@ module _ (T : Tables) where
 
   -- the calls of a line leave what the line leaves
   pub line_left : (p : Parsed) (o s : List ℕ) → run (calls_of_line p o s T) T ≡ (at_desk p [] [] T).after
-  unfolding runs calls_of_line at_desk register_line called write_line plan_of after_call
+  unfolding run calls_of_line at_desk register_line called write_line plan_of after_call
   line_left none o s = refl
   line_left (line x t fs) o s =
       by_line (eqb x letter.registers) _ _ _ _ refl
@@ -116,7 +116,7 @@ module _ (T : Tables) where
 
 -- and those of many lines
 lines_left : (ls : List (List ℕ)) (o s : List ℕ) (T : Tables) → answered left_by ls T ≡ run (calls_of ls o s T) T
-unfolding answered left_by calls_of runs
+unfolding answered left_by calls_of run
 lines_left [] o s T = refl
 lines_left (l ∷ ls) o s T =
     let cs = calls_of_line (parsed l) o s T in

@@ -29,8 +29,9 @@ unfolding chain
 chained_is zero ends f = refl
 chained_is (suc n) ends f = refl
 chained_is zero (goes g c) f = absurd (omega arith)
-chained_is (suc n) (goes {h = zero} g c) f = absurd (omega arith)
-chained_is (suc n) (goes {h = suc h} g c) f = ap (λ (k : List ℕ). suc h ∷ k) (chained_is n c (omega arith))
+chained_is {h = zero} (suc n) (goes g c) f = absurd (omega arith)
+chained_is {N = N} {h = suc h} (suc n) (goes {xs = xs} g c) f =
+    ap (λ (k : List ℕ). suc h ∷ k) (chained_is {h = next N (suc h)} n c (omega arith))
 
 -- One step of a chain, and its end
 pub chained_end : {N : List ℕ} {xs : List ℕ} {h : ℕ} → Chained N h xs → h ≡ 0 → xs ≡ []
@@ -158,7 +159,7 @@ module _ {N : List ℕ} (B : Siblings N) where
   unfolding last_below
   stands_after b i ends v m g = absurd (Memᴰ.not-nil m)
   stands_after {xs = h ∷ ys} b i (goes k c) v m g = ⊎_elim
-      (λ (e : i ≡ h). rw e
+      (λ (e : i ≡ h). subst (λ (x : ℕ). last_below N (label N (next N x)) b (h ∷ ys) ≡ x) (sym e)
       (below_on N (label N (next N h)) h ys b (B.rises h (v k) (subst (λ (x : ℕ). 0 < next N x) e g)) ∙ stands_first h c
       (B.goes h (v k))))
       (λ n. stands_after (cond (ltb (label N h) (label N (next N i))) h b) i c (B.goes h (v k)) n g)

@@ -117,7 +117,7 @@ module _ {r : List ℕ} {test rest : List ℕ → Bool} {N : List ℕ} {link d :
             ∙ passes_smaller rest (get_or r d 0) (drop (suc d) r) (label N i) s g) behind_next;
       }
 
-  pass_to : {i at p : ℕ} → p ≡ get_or r d 0 → Reaches N p i at → PassedTo r test rest N link i d → PassedTo r test rest N link at d
+  pass_to : {p i at : ℕ} → p ≡ get_or r d 0 → Reaches N p i at → PassedTo r test rest N link i d → PassedTo r test rest N link at d
   pass_to e ended P = P
   pass_to e (here q g) P = P
   pass_to e (later q g R) P = pass_to e R (pass P q (omega arith))

@@ -79,12 +79,12 @@ module _ {w : ℕ} {s : List ℕ} {at m : ℕ} {N : List ℕ} (K : KitsStand w s
 
     -- where its record ends
     module _ {r : ℕ} (q : r ≡ record_end w s at) where
-      behind_first : r ≡ at + record_size w (drop at s)
-      behind_first = q ∙ sym (end_whole w s at (first_whole some_kit).0) ∙ (omega (arith, size_at w s at))
+      behind_first_lem : r ≡ at + record_size w (drop at s)
+      behind_first_lem = q ∙ sym (end_whole w s at (first_whole some_kit).0) ∙ (omega (arith, size_at w s at))
 
       pub units_of_rest : with_units (kits_read w s at m) ≡ kits_read w s r (m - 1)
       units_of_rest =
-          let b = behind_first in
+          let b = behind_first_lem in
           let n = no_unit first no_units in
           rw b (units_read some_kit ∙ rw n refl)
 
@@ -95,7 +95,7 @@ module _ {w : ℕ} {s : List ℕ} {at m : ℕ} {N : List ℕ} (K : KitsStand w s
             width = K.width;
             parts = K.parts;
             few = K.few;
-            inside = rw behind_first (omega (arith, K.inside, rw sub-zero at (end_step w s at 0 m some_kit)));
+            inside = rw behind_first_lem (omega (arith, K.inside, rw sub-zero at (end_step w s at 0 m some_kit)));
             good = rw u at (good_with_units K.parts ks K.good);
             unlike = rw u at (unlike_with_units ks K.unlike);
             rises = rw u at (rising_with_units ks K.rises);
