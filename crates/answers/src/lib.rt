@@ -1,12 +1,14 @@
 // Document 01, the table of refusals, and what the requests added to it: what every call of the house answers, from the register to the catalogue, and
 // the number and value of each answer as a program writes them.
+#![tactic(auto)]
+
 ghost use Rattle.std.specs.Prelude.{◌≡◌};
 ghost use Rattle.ground.specs.Calls.{is_refused, number_of, value_of};
 ghost use Rattle.answers.specs.Answers.{reply};
 ghost use Rattle.answers.specs.Inner.{Means};
 
 // A call is done, with its value, or refused; a refusal that has a value carries it.
-#[derive(Drop)]
+#[derive(Clone, Copy)]
 pub enum Answer {
     Done(usize),
     WrongLength,
@@ -101,7 +103,7 @@ const PUNCTUATED: u8 = 16;
 const NO_UNITS: u8 = 19;
 
 // A number, 0 for done, and a value.
-#[derive(Drop)]
+#[derive(Clone, Copy)]
 pub struct Reply {
     pub number: u8,
     pub value: usize,

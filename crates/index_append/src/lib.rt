@@ -1,5 +1,7 @@
 // Document 01, "then filled in sheet order": kits that come in listing order, entered into a table that was empty. Each goes behind all that the table
 // holds, so that the next free node and every link are known, and nothing is searched.
+#![tactic(auto)]
+
 ghost use Rattle.std.specs.Prelude.{◌≡◌, ◌≤◌, drop};
 ghost use Rattle.kits.specs.Kits.{most_units, units_in};
 ghost use Rattle.index_insert.specs.Enter.{enter_below, enter};

@@ -1,5 +1,7 @@
 // Document 01, "Deletion clears the tag, then from that node upwards zeroes and unlinks each node but the root that has neither tag nor child, and
 // stops at the first that must stay".
+#![tactic(auto)]
+
 ghost use Rattle.std.specs.Prelude.{◌≡◌};
 ghost use Rattle.kits.specs.Kits.{most_place};
 ghost use Rattle.nodes.specs.Nodes.{depth};

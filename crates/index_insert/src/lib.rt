@@ -1,4 +1,6 @@
 // Document 01, "Insertion takes missing nodes from shallow to deep, each the lowest numbered free one".
+#![tactic(auto)]
+
 ghost use Rattle.std.specs.Prelude.{◌≡◌, ◌-◌, drop};
 ghost use Rattle.ground.specs.Lists.{from, first_or};
 ghost use Rattle.kits.specs.Kits.{most_place};
@@ -12,7 +14,7 @@ use index_links::{link, put_tag};
 use nodes::{free_at, label_at, node_count, tag_at};
 
 // What a table has for an insertion: whether some node bears its tag, how many nodes are free, and the lowest numbered free one.
-#[derive(Drop)]
+#[derive(Clone, Copy)]
 pub struct Survey {
     pub borne: bool,
     pub free: usize,

@@ -1,4 +1,6 @@
 // Document 01, "The node table": a node's children by their labels, and a node linked in among them or unlinked.
+#![tactic(auto)]
+
 ghost use Rattle.std.specs.Prelude.{◌≡◌, [], ◌∷◌, ◌<◌, length, set};
 ghost use Rattle.ground.specs.Limits.{two_limit};
 ghost use Rattle.ground.specs.Laid.{laid};

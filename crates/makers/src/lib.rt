@@ -1,5 +1,7 @@
 // Request 8, "The maker's number beside ours": a second table of the register's layout, the maker's, and the calls that are lent the register and it.
 // None of the public calls `zero_makers`, `set_maker`, `clear_maker`, `label_answer` and `label` has a `requires`.
+#![tactic(auto)]
+
 ghost use Rattle.std.specs.Prelude.{◌≡◌, true, ◌*◌, ◌<◌, ◌≤◌, replicate};
 ghost use Rattle.ground.specs.Lists.{allb, from};
 ghost use Rattle.ground.specs.Laid.{laid};

@@ -1,5 +1,7 @@
 // The check of a node table: document 01, "The table is sound when". Each node by itself first, so that links may be followed; then each chain
 // once, with the tallies along it; then the equal labels on paths; then the tags. Its steps are in proportion to the number of nodes, whatever the words are.
+#![tactic(auto)]
+
 ghost use Rattle.std.specs.Prelude.{◌≡◌, true, ◌+◌, ◌<◌, ◌≤◌, ◌/◌};
 ghost use Rattle.ground.specs.Inner.{Says};
 ghost use Rattle.nodes.specs.Nodes.{most_nodes, child, next, size, nodes_length};
@@ -167,7 +169,7 @@ fn spots_ok(nodes: &[u16], parts: u16) -> bool
 }
 
 // What a chain comes to: how many nodes it has, and how many tagged nodes these say are at or below them.
-#[derive(Drop)]
+#[derive(Clone, Copy)]
 struct Chain {
     pub nodes: usize,
     pub tags: usize,

@@ -1,5 +1,7 @@
 // Document 01, "no number stands twice", in a register and in a sheet: whether one of some numbers, each behind its length byte, repeats one before it.
 // A number is compared, byte for byte, with those alone that have its hash: equal numbers have equal hashes.
+#![tactic(auto)]
+
 ghost use Rattle.std.specs.Prelude.{◌≡◌, ◌+◌, ◌<◌, ◌≤◌, length};
 ghost use Rattle.ground.specs.Lists.{anyb, distinct, eq_list};
 ghost use Rattle.repeats.specs.Inner.{number_here, next_place, entry_of, first_entries, is_repeat, EntriesInside, hashes, hash_of, LeadsBack, LastHas, Hashed};
