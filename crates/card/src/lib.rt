@@ -1,4 +1,6 @@
 // Request 5, "A card for a single kit": "a sibling of the sheet". A card's tag and line count, its sizes and offsets; reader and writer stand on these.
+#![tactic(auto)]
+
 ghost use Rattle.std.specs.Prelude.{◌≡◌, ◌∷◌, ◌++◌, ◌+◌, ◌≤◌, length, take, drop};
 ghost use Rattle.kits.specs.Kits.{before};
 ghost use Rattle.sheet.specs.Sheet.{line_words};
@@ -7,7 +9,7 @@ use kits::MOST_UNITS;
 use sheet::LINE_WORDS;
 
 // A card's tag and line count; its mark, version and limits are the type's own.
-#[derive(Drop)]
+#[derive(Clone, Copy)]
 pub struct Card {
     pub tag: u16,
     pub lines: usize,

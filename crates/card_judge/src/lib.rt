@@ -1,5 +1,7 @@
 // Request 5, "13 with the start of the first faulty item": the judge of a card, which touches no table. It answers where the first faulty item starts,
 // or the card's tag and line count.
+#![tactic(auto)]
+
 ghost use Rattle.std.specs.Prelude.{◌≡◌, ◌<◌, ◌≤◌, length, get_or};
 ghost use Rattle.ground.specs.Limits.{byte_limit};
 ghost use Rattle.repeats.specs.Inner.{next_place};
@@ -19,7 +21,7 @@ use sheet::{QUANTITY_BYTES, item_size, two_at};
 const MOST_EACH: usize = MOST_QUANTITY as usize;
 
 // What the judge answers.
-#[derive(Drop)]
+#[derive(Clone, Copy)]
 pub enum CardJudged {
     // the offset of the first faulty item
     Fault(usize),

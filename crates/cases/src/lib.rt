@@ -1,1 +1,3 @@
+#![tactic(auto)]
+
 // Laws alone: the documents' own examples and every limit, in literal numbers, computed.

@@ -1,6 +1,6 @@
 -- Inner: no promise of the house rests on what stands here; inner contracts and proofs speak by it.
 -- What is kept of a line that comes in pieces.
-use Rattle.std.specs.Prelude.{List, [], ◌∷◌, ◌++◌, ℕ, suc, ◌+◌, ◌-◌, length, take}
+use Rattle.std.specs.Prelude.{List, [], ◌∷◌, ◌++◌, ℕ, suc, ◌-◌, length, take}
 use Rattle.desk_text.specs.Lines.{longest_line}
 use Rattle.desk_input.specs.Lines.{ended, unfinished, last_line, answered}
 

@@ -1,4 +1,6 @@
 // Document 01, "The desk program": what is kept of a line while the input is read in pieces.
+#![tactic(auto)]
+
 ghost use Rattle.std.specs.Prelude.{◌≤◌, length};
 ghost use Rattle.ground.specs.Laid.{Put};
 ghost use Rattle.desk_input.specs.Inner.{part_kept};

@@ -1,4 +1,6 @@
 // Document 01, "The desk program": a line in, a reply in bytes out, over lent tables and lent outputs.
+#![tactic(auto)]
+
 ghost use Rattle.std.specs.Prelude.{◌≡◌, [], ◌+◌, ◌*◌, ◌≤◌, length};
 ghost use Rattle.ground.specs.Calls.{number_of, value_of, memory, Promise};
 ghost use Rattle.register.specs.Inner.{Ready};

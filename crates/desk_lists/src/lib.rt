@@ -1,4 +1,6 @@
 // Document 01, "The desk program": the list that a line types, each number looked up, left to right.
+#![tactic(auto)]
+
 ghost use Rattle.std.specs.Prelude.{◌≡◌, [], ◌∷◌, ◌+◌, ◌≤◌, length};
 ghost use Rattle.ground.specs.Laid.{laid};
 ghost use Rattle.register.specs.Inner.{Ready};

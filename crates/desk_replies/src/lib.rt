@@ -1,4 +1,6 @@
 // Document 01, "The desk program": how a reply is printed, without any table.
+#![tactic(auto)]
+
 ghost use Rattle.std.specs.Prelude.{◌≡◌, [], ◌∷◌, ◌+◌, ◌*◌, ◌<◌, ◌≤◌, length};
 ghost use Rattle.desk_text.specs.Amounts.{zero_digit};
 ghost use Rattle.desk_text.specs.Lines.{space};

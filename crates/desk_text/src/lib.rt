@@ -1,4 +1,6 @@
 // Document 01, "The desk program": what a line is, without any table.
+#![tactic(auto)]
+
 ghost use Rattle.std.specs.Prelude.{◌≡◌, true, false, ◌+◌, ◌<◌, ◌≤◌, length, eqb};
 ghost use Rattle.ground.specs.Lists.{allb, anyb};
 ghost use Rattle.desk_text.specs.Inner.{EndOf, amount_where, amount_in, ParsedAs, line_where};
@@ -44,14 +46,14 @@ pub const WRITES: u8 = b'W';
 const BEHIND_LETTER: usize = 2;
 
 // Whether a field is a good tag or quantity, and its value; 0 where it is none.
-#[derive(Drop)]
+#[derive(Clone, Copy)]
 pub struct Amount {
     pub good: bool,
     pub value: u16,
 }
 
 // A line taken apart.
-#[derive(Drop)]
+#[derive(Clone, Copy)]
 pub enum Parsed {
     // every other line answers `?`
     None,

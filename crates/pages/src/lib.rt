@@ -1,5 +1,7 @@
 // Request 4, "Turn the pages of a long listing": a bookmark, whether it is at fault, and the step to the next kit, on sound tables and by value. The
 // walk goes down to the bookmark's row and on from there, so that a page costs one path and the nodes up to the next answer.
+#![tactic(auto)]
+
 ghost use Rattle.std.specs.Prelude.{◌≡◌, true, [], ◌≤◌};
 ghost use Rattle.ground.specs.Calls.{Promise};
 ghost use Rattle.answers.specs.Answers.{reply};
@@ -21,14 +23,14 @@ use questions::{
 };
 
 // "It holds whether paging has begun and the unit row of the last kit shown."
-#[derive(Drop)]
+#[derive(Clone, Copy)]
 pub struct Bookmark {
     pub begun: bool,
     pub row: Row,
 }
 
 // What a step answers, and the bookmark after it.
-#[derive(Drop)]
+#[derive(Clone, Copy)]
 pub struct Page {
     pub answer: Answer,
     pub mark: Bookmark,

@@ -1,5 +1,7 @@
 // Document 01, "Only a faultless sheet can get 12", and request 12, "the longest faultless run of kit records from the first on": the judge of a
 // sheet, which touches no table. It answers the offset of the first faulty item up to the kit count, or the counts and the run of records.
+#![tactic(auto)]
+
 ghost use Rattle.std.specs.Prelude.{◌≡◌, ◌&&◌, ◌||◌, List, [], ℕ, ◌+◌, ◌<◌, ◌≤◌, length, drop, leb, eqb};
 ghost use Rattle.ground.specs.Limits.{byte_limit, most_parts, two_limit};
 ghost use Rattle.ground.specs.Lists.{anyb, is_zero};
@@ -20,7 +22,7 @@ use sheet::{Sheet, TWO_BYTES, item_size, list_in, list_words, place_bytes, recor
 const TAGS: usize = 0x1_0000;
 
 // The longest faultless run of kit records: how many, the nodes that their kits need, and where it ends.
-#[derive(Drop)]
+#[derive(Clone, Copy)]
 pub struct Run {
     pub kept: usize,
     pub nodes: usize,
@@ -28,7 +30,7 @@ pub struct Run {
 }
 
 // What the judge answers.
-#[derive(Drop)]
+#[derive(Clone, Copy)]
 pub enum Judged {
     // the offset of the first faulty item, up to the kit count
     Fault(usize),
@@ -37,7 +39,7 @@ pub enum Judged {
 }
 
 // What reading an item answers: the offset of a fault, or what was read.
-#[derive(Drop)]
+#[derive(Clone, Copy)]
 enum Read {
     Fault(usize),
     Done(usize),

@@ -1,5 +1,7 @@
 // Document 01, "Read a sheet", and request 12, "Rescue a torn sheet": a sheet that the judge finds faultless, or what is kept of a torn one, fills
 // both tables, if they have room. The whole register and the whole node table are written.
+#![tactic(auto)]
+
 ghost use Rattle.std.specs.Prelude.{◌≡◌, true, ◌||◌, ◌+◌, ◌*◌, ◌<◌, ◌≤◌, length, ltb};
 ghost use Rattle.ground.specs.Laid.{laid, zeroed};
 ghost use Rattle.repeats.specs.Inner.{number_here, next_place};
@@ -161,7 +163,7 @@ pub fn read_sheet(reg: &mut [u8], nodes: &mut [u16], s: &[u8]) -> Answer
 }
 
 // What salvage answers: a number with its value, and three numbers.
-#[derive(Drop)]
+#[derive(Clone, Copy)]
 pub struct Salvaged {
     pub answer: Answer,
     pub report: Report,

@@ -1,5 +1,7 @@
 // Document 01, "Write the sheet at the start of a lent output: bytes written". Each item is set down in the rest of the output, behind the last:
 // the tail of the output slice is lent on to the writer of each number or kit record. The bytes needed are counted first.
+#![tactic(auto)]
+
 ghost use Rattle.std.specs.Prelude.{◌≡◌, ◌+◌, ◌*◌, ◌<◌, ◌≤◌, length};
 ghost use Rattle.ground.specs.Laid.{laid, Put};
 ghost use Rattle.ground.specs.Calls.{Promise};
@@ -27,7 +29,7 @@ use sheet::{
 
 // The line that a row ends in: how many lines stand before it, its place and its quantity. In front of every row stands a line of
 // nothing, the root's, so that each row ends in one.
-#[derive(Drop)]
+#[derive(Clone, Copy)]
 pub struct EndLine {
     pub at: usize,
     pub place: u16,

@@ -1,5 +1,7 @@
 // Request 1: kits that a bin almost fills, those whose shortfall is at most d, with the shortfall of each. On sound tables; the public call stands
 // above.
+#![tactic(auto)]
+
 ghost use Rattle.std.specs.Prelude.{◌≡◌, true, [], ◌+◌, ◌≤◌, ◌<◌, length};
 ghost use Rattle.ground.specs.Calls.{SetsBoth};
 ghost use Rattle.answers.specs.Answers.{reply};
@@ -20,7 +22,7 @@ use questions::{kit_count, put_word, quantity};
 pub const MOST_SHORT: u16 = MOST_UNITS as u16;
 
 // What a walk keeps of the labels that it has passed: the last one, how many of it the bin has left, and the shortfall so far.
-#[derive(Drop)]
+#[derive(Clone, Copy)]
 pub struct Passed {
     pub last: u16,
     pub left: u16,

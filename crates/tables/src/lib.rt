@@ -1,4 +1,6 @@
 // Document 01, "Refusals": what the calls of the catalogue ask of the tables and the list that are lent to them, in the paper's order.
+#![tactic(auto)]
+
 ghost use Rattle.std.specs.Prelude.{◌≡◌, length};
 ghost use Rattle.ground.specs.Calls.{decide};
 ghost use Rattle.register.specs.Register.{parts_of};

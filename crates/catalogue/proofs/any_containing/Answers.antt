@@ -1,0 +1,16 @@
+-- What the tables are refused for comes first; sound ones are lent on.
+use mathlib.Core.Path.{sym, ◌∙◌}
+use Rattle.tables.proofs.Lent.{tested_sound, list_refused}
+use Rattle.catalogue.proofs.Answers.{any_refused}
+use Rattle.questions.specs.Questions.{is_containing}
+use Rattle.catalogue.proofs.any_containing.Goals as goal
+
+pub returns-then-refused : goal.returns-then-refused
+returns-then-refused c =
+    let a = c.args in
+    let is = c.check_tables-lent.ensures in
+    let e = sym c.refused.ensures ∙ c.if-refused.true in
+    any_refused a.reg.now a.nodes.now a.list.now _ (list_refused _ _ _ _ is e) is_containing e
+
+pub any_containing-requires : goal.any_containing-requires
+any_containing-requires c = search tested_sound

@@ -1,0 +1,37 @@
+-- The node that the walk finds from the places that count gives the page.
+use mathlib.Core.Path.{◌≡◌, sym}
+use native.Mathlib.Omega.{arith}
+use lib.ListN.{length}
+use lib.Seq.{length-take-le}
+use Rattle.kits.specs.Kits.{most_units}
+use Rattle.kits.specs.Inner.{quantities}
+use Rattle.kits.proofs.Rows.{row_wide}
+use Rattle.questions.specs.Inner.{fits}
+use Rattle.pages.proofs.Turned.{found_live, turned_within}
+use Rattle.pages.proofs.page_within.Goals as goal
+use Rattle.pages.proofs.page_within.Goals.{Start}
+
+-- a row by value has 64 places
+wide : (c : Start) → length c.args.mark.row.places ≡ most_units
+wide c = row_wide c.args.mark.row c.well_formed.1.1.0.1.1.1.0.1.1.0.1.0.1
+
+pub slice_bounds-places-end : goal.slice_bounds-places-end
+slice_bounds-places-end c =
+    omega (arith, wide (goal.at.slice_bounds-places-end c).Start, c.len_shown-len.ensures, c.requires.fact_3)
+
+pub slice_bounds-next_within-end : goal.slice_bounds-next_within-end
+slice_bounds-next_within-end c =
+    sym (length-take-le c.len_shown-len.result c.args.mark.row.places
+    (omega (arith, wide (goal.at.slice_bounds-next_within-end c).Start, c.len_shown-len.ensures, c.requires.fact_3)))
+
+pub page_at-requires : goal.page_at-requires
+page_at-requires c =
+    record {
+      fact_1 = c.requires.fact_1;
+      fact_2 = found_live c.requires.fact_1 _ (fits (quantities c.args.bin.now)) c.next_within-at.ensures;
+    }
+
+pub returns : goal.returns
+returns c =
+    turned_within c.args.bin.now c.args.mark c.requires.fact_1 c.requires.fact_2 c.len_shown-len.ensures
+    c.page_at.ensures c.next_within-at.ensures
