@@ -1,4 +1,6 @@
 // "a bookmark that is lent to the call and moved on in place, for both kinds of question": the pages of the catalogue, over a bookmark behind `&mut`.
+#![tactic(auto)]
+
 ghost use Rattle.questions.specs.Questions.{is_within, is_containing};
 ghost use Rattle.catalogue.specs.Calls.{Turns};
 

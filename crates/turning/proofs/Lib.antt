@@ -1,2 +1,0 @@
--- The walk that both thin functions take.
-pub mod Thin
