@@ -13,7 +13,7 @@ use Rattle.ground.specs.Lists.{is_zero}
 use Rattle.ground.specs.Calls.{Plan, Reply, done, refused, answer, leaves, number_of, value_of, is_refused, Promise}
 use Rattle.ground.specs.Stretch.{Stretch}
 use Rattle.ground.proofs.Laws.{by_cond}
-use Rattle.ground.proofs.Calls.{passed_done, promise_part}
+use Rattle.ground.proofs.Calls.{leaves_done, passed_done, promise_part, refused_leaves}
 use Rattle.register.specs.Number.{longest_number}
 use Rattle.register.specs.Register.{parts_of, slot_bytes, slot_count, unused_at, used_at}
 use Rattle.register.specs.Calls.{showing, stretch_from, stretch_size}
@@ -79,7 +79,17 @@ show_place p R r is e = (shows R p (value_of r) (sym is ∙ passed_done r e)).so
 pub label_place : (p : ℕ) (B : Beside) (r : Reply) → r ≡ answer (showing_label p B) → PlaceShown r p
 label_place p B r is e = (show_found p B (value_of r) (sym is ∙ passed_done r e)).some
 
--- so its stretch starts there
+-- where a stretch starts
+pub from_refused : (p : ℕ) (R : List ℕ) (r : Reply) → r ≡ answer (showing p R) → is_refused r ≡ true → 0 ≡ stretch_from p R
+unfolding stretch_from
+from_refused p R r e t = sym (refused_leaves (answer (showing p R)) 0 ((p - 1) * slot_bytes + 1) (ap is_refused (sym e) ∙ t))
+
+pub from_done : (p : ℕ) (R : List ℕ) (q v : ℕ) → answer (showing p R) ≡ done v → q ≡ p → (q - 1) * slot_bytes + 1 ≡ stretch_from p R
+unfolding stretch_from
+from_done p R q v e w =
+    ap (λ x. (x - 1) * slot_bytes + 1) w ∙ sym (leaves_done (answer (showing p R)) v 0 ((p - 1) * slot_bytes + 1) e)
+
+-- so the stretch of a place that is found starts there
 pub show_from : (p : ℕ) (R : List ℕ) (r : Reply) → r ≡ answer (showing p R) → leaves r 0 ((p - 1) * slot_bytes + 1) ≡ stretch_from p R
 unfolding stretch_from
 show_from p R r is = ap (λ (x : Reply). leaves x 0 ((p - 1) * slot_bytes + 1)) is

@@ -1,6 +1,8 @@
-// The seam for bindings, and the place that notices a weaker contract below: one function for each public call, in a shape that C can call. Its
-// contract is the call's full promise, answer and every lent word, and its body is the call: what a call below no longer promises fails to prove here.
-// The number of the answer is returned, its value goes out through `value`; a slice is a pointer and then how many elements it has.
+// The seam for bindings, and the place that notices a weaker contract below: one function for each public call, in a shape that C can call; `face_c`
+// exports them. A contract is the call's full promise, answer and every lent word, and its body is the call: what a call below no longer promises
+// fails to prove here. The number of the answer is returned, its value goes out through `value`; a slice is a pointer and then how many elements it has.
+#![tactic(auto)]
+
 ghost use Rattle.std.specs.Prelude.{◌≡◌, cond, ◌+◌, ◌-◌, ◌*◌, ◌<◌, ◌^◌};
 ghost use Rattle.ground.specs.Lists.{is_zero};
 ghost use Rattle.ground.specs.Calls.{answer, leaves, number_of, value_of, both};
@@ -35,8 +37,7 @@ fn hand_over(a: Answer, value: &mut u32) -> u8
 }
 
 // Empties both tables.
-#[unsafe(no_mangle)]
-pub extern "C" fn padrisk_empty(reg: &mut [u8], nodes: &mut [u16], value: &mut u32) -> u8
+pub fn padrisk_empty(reg: &mut [u8], nodes: &mut [u16], value: &mut u32) -> u8
     ensures { Crosses emptying (tables reg.old nodes.old)
         result value.new (tables reg.new nodes.new) }
 {
@@ -44,24 +45,21 @@ pub extern "C" fn padrisk_empty(reg: &mut [u8], nodes: &mut [u16], value: &mut u
 }
 
 // Registers a number: its place.
-#[unsafe(no_mangle)]
-pub extern "C" fn padrisk_register_number(reg: &mut [u8], num: &[u8], value: &mut u32) -> u8
+pub fn padrisk_register_number(reg: &mut [u8], num: &[u8], value: &mut u32) -> u8
     ensures { Crosses (registering num.now) reg.old result value.new reg.new }
 {
     hand_over(register::register_number(reg, num), value)
 }
 
 // Looks a number up: its place.
-#[unsafe(no_mangle)]
-pub extern "C" fn padrisk_look_up(reg: &[u8], num: &[u8], value: &mut u32) -> u8
+pub fn padrisk_look_up(reg: &[u8], num: &[u8], value: &mut u32) -> u8
     ensures { Handed (answer (looking_up num.now reg.now)) result value.new }
 {
     hand_over(register::look_up(reg, num), value)
 }
 
 // Whether the number at a place can be shown.
-#[unsafe(no_mangle)]
-pub extern "C" fn padrisk_show_answer(reg: &[u8], place: u16, value: &mut u32) -> u8
+pub fn padrisk_show_answer(reg: &[u8], place: u16, value: &mut u32) -> u8
     ensures { Handed (answer (showing place reg.now)) result value.new }
 {
     hand_over(register::show_answer(reg, place), value)
@@ -85,27 +83,31 @@ fn starts_at(told: Answer, place: u16) -> usize
     (wide16(place) - 1) * SLOT_BYTES + 1
 }
 
+// How far into the register that stretch starts.
+fn stretch_from(reg: &[u8], place: u16) -> usize
+    ensures { result ≡ stretch_from place reg.now }
+{
+    starts_at(register::show_answer(reg, place), place)
+}
+
 // Shows the number at a place by numbers: how many bytes of the register it is; from which on goes out through `start`.
-#[unsafe(no_mangle)]
-pub extern "C" fn padrisk_show(reg: &[u8], place: u16, start: &mut usize) -> usize
+pub fn padrisk_show(reg: &[u8], place: u16, start: &mut usize) -> usize
     ensures fact_1 { start.new ≡ stretch_from place reg.now }
     ensures fact_2 { result ≡ stretch_size place reg.now }
 {
-    *start = starts_at(register::show_answer(reg, place), place);
+    *start = stretch_from(reg, place);
     show_stretch(reg, place).len()
 }
 
 // Zeroes the maker's table.
-#[unsafe(no_mangle)]
-pub extern "C" fn padrisk_zero_makers(reg: &[u8], makers: &mut [u8], value: &mut u32) -> u8
+pub fn padrisk_zero_makers(reg: &[u8], makers: &mut [u8], value: &mut u32) -> u8
     ensures { Crosses (beside_lent zeroing_makers reg.now) makers.old result value.new makers.new }
 {
     hand_over(makers::zero_makers(reg, makers), value)
 }
 
 // Sets the maker's number of a place.
-#[unsafe(no_mangle)]
-pub extern "C" fn padrisk_set_maker(
+pub fn padrisk_set_maker(
     reg: &[u8],
     makers: &mut [u8],
     place: u16,
@@ -119,21 +121,14 @@ pub extern "C" fn padrisk_set_maker(
 }
 
 // Clears the maker's number of a place.
-#[unsafe(no_mangle)]
-pub extern "C" fn padrisk_clear_maker(
-    reg: &[u8],
-    makers: &mut [u8],
-    place: u16,
-    value: &mut u32,
-) -> u8
+pub fn padrisk_clear_maker(reg: &[u8], makers: &mut [u8], place: u16, value: &mut u32) -> u8
     ensures { Crosses (beside_lent (clearing_maker place) reg.now) makers.old result value.new makers.new }
 {
     hand_over(makers::clear_maker(reg, makers, place), value)
 }
 
 // Whether a place has a label: the maker's number, or ours.
-#[unsafe(no_mangle)]
-pub extern "C" fn padrisk_label_answer(reg: &[u8], makers: &[u8], place: u16, value: &mut u32) -> u8
+pub fn padrisk_label_answer(reg: &[u8], makers: &[u8], place: u16, value: &mut u32) -> u8
     ensures { Handed (answer (showing_label place (beside reg.now makers.now))) result value.new }
 {
     hand_over(makers::label_answer(reg, makers, place), value)
@@ -159,8 +154,7 @@ fn is_makers(reg: &[u8], makers: &[u8], place: u16) -> bool
 
 // The label of a place by numbers: how many bytes it is. From which on goes out through `start`, and through `theirs` 1 where they are bytes of the
 // maker's table, and else 0.
-#[unsafe(no_mangle)]
-pub extern "C" fn padrisk_label<'a>(
+pub fn padrisk_label<'a>(
     reg: &'a [u8],
     makers: &'a [u8],
     place: u16,
@@ -177,14 +171,7 @@ pub extern "C" fn padrisk_label<'a>(
 }
 
 // Inserts a list with a tag: the nodes newly taken.
-#[unsafe(no_mangle)]
-pub extern "C" fn padrisk_insert(
-    reg: &[u8],
-    nodes: &mut [u16],
-    list: &[u16],
-    tag: u16,
-    value: &mut u32,
-) -> u8
+pub fn padrisk_insert(reg: &[u8], nodes: &mut [u16], list: &[u16], tag: u16, value: &mut u32) -> u8
     ensures { Crosses (inserting list.now tag) (tables reg.now nodes.old)
         result value.new (tables reg.now nodes.new) }
 {
@@ -192,16 +179,14 @@ pub extern "C" fn padrisk_insert(
 }
 
 // Finds a list: its tag.
-#[unsafe(no_mangle)]
-pub extern "C" fn padrisk_find(reg: &[u8], nodes: &[u16], list: &[u16], value: &mut u32) -> u8
+pub fn padrisk_find(reg: &[u8], nodes: &[u16], list: &[u16], value: &mut u32) -> u8
     ensures { Handed (answer (finding list.now (tables reg.now nodes.now))) result value.new }
 {
     hand_over(catalogue::find(reg, nodes, list), value)
 }
 
 // Deletes a list: its tag.
-#[unsafe(no_mangle)]
-pub extern "C" fn padrisk_delete(reg: &[u8], nodes: &mut [u16], list: &[u16], value: &mut u32) -> u8
+pub fn padrisk_delete(reg: &[u8], nodes: &mut [u16], list: &[u16], value: &mut u32) -> u8
     ensures { Crosses (deleting list.now) (tables reg.now nodes.old)
         result value.new (tables reg.now nodes.new) }
 {
@@ -209,42 +194,28 @@ pub extern "C" fn padrisk_delete(reg: &[u8], nodes: &mut [u16], list: &[u16], va
 }
 
 // Counts the kits that begin with a list's units.
-#[unsafe(no_mangle)]
-pub extern "C" fn padrisk_count_beginning(
-    reg: &[u8],
-    nodes: &[u16],
-    list: &[u16],
-    value: &mut u32,
-) -> u8
+pub fn padrisk_count_beginning(reg: &[u8], nodes: &[u16], list: &[u16], value: &mut u32) -> u8
     ensures { Handed (answer (counting list.now (tables reg.now nodes.now))) result value.new }
 {
     hand_over(catalogue::count_beginning(reg, nodes, list), value)
 }
 
 // Any kit within the bin: the tag of the first in listing order, or 0.
-#[unsafe(no_mangle)]
-pub extern "C" fn padrisk_any_within(reg: &[u8], nodes: &[u16], bin: &[u16], value: &mut u32) -> u8
+pub fn padrisk_any_within(reg: &[u8], nodes: &[u16], bin: &[u16], value: &mut u32) -> u8
     ensures { Handed (answer (any_kit is_within bin.now (tables reg.now nodes.now))) result value.new }
 {
     hand_over(catalogue::any_within(reg, nodes, bin), value)
 }
 
 // Any kit containing the list: the tag of the first in listing order, or 0.
-#[unsafe(no_mangle)]
-pub extern "C" fn padrisk_any_containing(
-    reg: &[u8],
-    nodes: &[u16],
-    list: &[u16],
-    value: &mut u32,
-) -> u8
+pub fn padrisk_any_containing(reg: &[u8], nodes: &[u16], list: &[u16], value: &mut u32) -> u8
     ensures { Handed (answer (any_kit is_containing list.now (tables reg.now nodes.now))) result value.new }
 {
     hand_over(catalogue::any_containing(reg, nodes, list), value)
 }
 
 // All kits within the bin: their tags in listing order at the start of the output.
-#[unsafe(no_mangle)]
-pub extern "C" fn padrisk_all_within(
+pub fn padrisk_all_within(
     reg: &[u8],
     nodes: &[u16],
     bin: &[u16],
@@ -258,8 +229,7 @@ pub extern "C" fn padrisk_all_within(
 }
 
 // All kits containing the list: their tags in listing order at the start of the output.
-#[unsafe(no_mangle)]
-pub extern "C" fn padrisk_all_containing(
+pub fn padrisk_all_containing(
     reg: &[u8],
     nodes: &[u16],
     list: &[u16],
@@ -273,8 +243,7 @@ pub extern "C" fn padrisk_all_containing(
 }
 
 // All kits that the bin fills but for at most d units: their tags in the one output, and the shortfall of each in the other.
-#[unsafe(no_mangle)]
-pub extern "C" fn padrisk_all_almost(
+pub fn padrisk_all_almost(
     reg: &[u8],
     nodes: &[u16],
     bin: &[u16],
@@ -340,8 +309,7 @@ fn hand_page(
 }
 
 // Turns to the next kit within the bin: its tag, or 0 when none is left. The bookmark is lent taken apart, and moved on in place.
-#[unsafe(no_mangle)]
-pub extern "C" fn padrisk_turn_within(
+pub fn padrisk_turn_within(
     reg: &[u8],
     nodes: &[u16],
     bin: &[u16],
@@ -360,8 +328,7 @@ pub extern "C" fn padrisk_turn_within(
 }
 
 // Turns to the next kit containing the list, alike.
-#[unsafe(no_mangle)]
-pub extern "C" fn padrisk_turn_containing(
+pub fn padrisk_turn_containing(
     reg: &[u8],
     nodes: &[u16],
     list: &[u16],
@@ -380,13 +347,7 @@ pub extern "C" fn padrisk_turn_containing(
 }
 
 // Writes the sheet at the start of the output: the bytes written.
-#[unsafe(no_mangle)]
-pub extern "C" fn padrisk_write_sheet(
-    reg: &[u8],
-    nodes: &[u16],
-    out: &mut [u8],
-    value: &mut u32,
-) -> u8
+pub fn padrisk_write_sheet(reg: &[u8], nodes: &[u16], out: &mut [u8], value: &mut u32) -> u8
     ensures { Crosses (writing (tables reg.now nodes.now)) out.old
         result value.new out.new }
 {
@@ -394,13 +355,7 @@ pub extern "C" fn padrisk_write_sheet(
 }
 
 // Reads a sheet into both tables: the kits read.
-#[unsafe(no_mangle)]
-pub extern "C" fn padrisk_read_sheet(
-    reg: &mut [u8],
-    nodes: &mut [u16],
-    sheet: &[u8],
-    value: &mut u32,
-) -> u8
+pub fn padrisk_read_sheet(reg: &mut [u8], nodes: &mut [u16], sheet: &[u8], value: &mut u32) -> u8
     ensures { Crosses (reading sheet.now) (tables reg.old nodes.old)
         result value.new (tables reg.new nodes.new) }
 {
@@ -423,8 +378,7 @@ fn hand_report(told: Salvaged, announced: &mut u32, third: &mut u32, value: &mut
 
 // Salvages a torn sheet into both tables: the kits kept. The kits announced go out through `announced`, and through `third` the offset of the first
 // fault or else the sheet's length; refused, 0 and 0, and the refusal's value through `third`.
-#[unsafe(no_mangle)]
-pub extern "C" fn padrisk_salvage(
+pub fn padrisk_salvage(
     reg: &mut [u8],
     nodes: &mut [u16],
     sheet: &[u8],
@@ -444,8 +398,7 @@ pub extern "C" fn padrisk_salvage(
 }
 
 // Writes the card of a held list at the start of the output: the bytes written.
-#[unsafe(no_mangle)]
-pub extern "C" fn padrisk_write_card(
+pub fn padrisk_write_card(
     reg: &[u8],
     nodes: &[u16],
     list: &[u16],
@@ -459,13 +412,7 @@ pub extern "C" fn padrisk_write_card(
 }
 
 // Reads a card into the index: the nodes newly taken.
-#[unsafe(no_mangle)]
-pub extern "C" fn padrisk_read_card(
-    reg: &[u8],
-    nodes: &mut [u16],
-    card: &[u8],
-    value: &mut u32,
-) -> u8
+pub fn padrisk_read_card(reg: &[u8], nodes: &mut [u16], card: &[u8], value: &mut u32) -> u8
     ensures { Crosses (reading_card card.now) (tables reg.now nodes.old)
         result value.new (tables reg.now nodes.new) }
 {
