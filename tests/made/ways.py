@@ -419,7 +419,6 @@ STORED_WAYS = {
     "G": [*PAGE_WAYS, PAGE_OVER_BY_EMPTY], "#": [wrong_counts, kits_counted, OVER_BY_EMPTY],
     "s": [versions_written, left_out], "r": [versions_read, replaced, dropped],
     "S": SALVAGE_WAYS, "x": [card_written], "X": CARD_WAYS,
-    "z": ZEROING_WAYS, "m": SETTING_WAYS, "u": CLEARING_WAYS, "v": LABEL_WAYS,
 }
 # Ways that requests by chance hardly ever go: registers are small there.
 OF_MANY_PARTS = [last_of_all, slots_lent, parts_lent, places_told, places_shown, places_listed,

@@ -10,7 +10,7 @@ use Rattle.ground.specs.Laid.{laid, Put}
 use Rattle.ground.proofs.Laws.{below_or}
 use Rattle.ground.proofs.Laid.{take_laid}
 use Rattle.ground.proofs.Put.{put_length}
-use Rattle.ground.specs.Tables.{Tables, tables}
+use Rattle.ground.specs.Tables.{Tables}
 use Rattle.desk_text.specs.Parted.{parted}
 use Rattle.desk_text.specs.Inner.{up_to, EndOf}
 use Rattle.desk_text.specs.Lines.{line_feed, longest_line}
@@ -141,17 +141,6 @@ module _ {k p : List ℕ} {T : Tables} {kept places sheet out : List ℕ} {n at 
               ap (λ x. answered left_by (ended x) Z) (sym q) ∙ ap (answered left_by (ended (behind_first (drop at p)))) w ∙ ap
               (λ ls. answered left_by ls U) (sym (ends_ended K (drop at p) C s)) ∙ W.lines;
         }
-
--- the slices that are lent keep their lengths
-pub record SameLengths (R N p s o R' N' p' s' o' : List ℕ) : Type 0 where
-  pub register : length R' ≡ length R
-  pub nodes : length N' ≡ length N
-  pub places : length p' ≡ length p
-  pub sheet : length s' ≡ length s
-  pub out : length o' ≡ length o
-
-pub same_start : (R N p s o : List ℕ) → SameLengths R N p s o R N p s o
-same_start R N p s o = record { register = refl; nodes = refl; places = refl; sheet = refl; out = refl }
 
 -- some input was read: the lines that have ended are answered, and n bytes are kept of the one that has not
 pub record Read (kept : List ℕ) (n : ℕ) (U : Tables) : Type 0 where

@@ -1,4 +1,6 @@
 // Document 01, "The desk program": reads lines from standard input and writes a reply to each.
+#![tactic(auto)]
+
 ghost use Rattle.std.specs.Prelude.{◌≡◌, ◌*◌, ◌<◌, length, take, replicate};
 ghost use Rattle.register.specs.Register.{slot_bytes};
 ghost use Rattle.nodes.specs.Nodes.{words_per_node};
@@ -13,7 +15,7 @@ ghost use Rattle.desk.specs.Desk.{Serves};
 use desk_input::keep_more;
 use desk_lines::answer_line;
 use desk_text::end_of;
-use libc::{STDIN_FILENO, STDOUT_FILENO};
+use std::io::{Read, Stdin, Stdout, Write};
 
 // "It reads standard input with 255 slots, 2,048 nodes, 2,048 output places and 8,192 sheet bytes."
 const SLOTS: usize = 255;
@@ -27,11 +29,15 @@ const SHEET_BYTES: usize = 8192;
 // One byte more than a line may have: enough of an overlong line to tell it, however long it is.
 const KEPT_BYTES: usize = desk_text::LONGEST_LINE + 1;
 
+// How much of the input is read at once.
+const PIECE_BYTES: usize = 4096;
+
 // Room for the longest reply, the one to W: its head, a space, two digits for each byte of the sheet, and a line feed.
 const REPLY_BYTES: usize = 16640;
 
-// Answers a line, and writes the reply out.
+// Answers a line, and writes the reply out. A write that fails is not reported: whoever asked is gone.
 fn reply_to(
+    stdout: &mut Stdout,
     line: &[u8],
     reg: &mut [u8],
     nodes: &mut [u16],
@@ -40,16 +46,17 @@ fn reply_to(
     out: &mut [u8],
 )
     requires { AtHand (tables reg.old nodes.old) places.old sheet.old out.old }
-    ensures fact_1 { AtHand (tables reg.new nodes.new) places.new sheet.new out.new }
-    ensures fact_2 { tables reg.new nodes.new ≡ left_by line.now (tables reg.old nodes.old) }
+    ensures at_hand { AtHand (tables reg.new nodes.new) places.new sheet.new out.new }
+    ensures left { tables reg.new nodes.new ≡ left_by line.now (tables reg.old nodes.old) }
 {
     let n = answer_line(line, reg, nodes, places, sheet, out);
-    io::write_all(STDOUT_FILENO, &out[..n]);
+    let _ = stdout.write_all(&out[..n]);
 }
 
 // Takes a piece of the input behind the `from` bytes kept of a line that has not ended, and answers every line that it ends: how many bytes are
 // kept now.
 fn take_piece(
+    stdout: &mut Stdout,
     piece: &[u8],
     kept: &mut [u8],
     from: usize,
@@ -59,11 +66,11 @@ fn take_piece(
     sheet: &mut [u8],
     out: &mut [u8],
 ) -> usize
-    requires fact_1 { Keeps kept.old from }
-    requires fact_2 { AtHand (tables reg.old nodes.old) places.old sheet.old out.old }
-    ensures fact_1 { Takes (take from kept.old) piece.now (tables reg.old nodes.old) result kept.new
+    requires keeps { Keeps kept.old from }
+    requires at_hand { AtHand (tables reg.old nodes.old) places.old sheet.old out.old }
+    ensures takes { Takes (take from kept.old) piece.now (tables reg.old nodes.old) result kept.new
         (tables reg.new nodes.new) }
-    ensures fact_2 { AtHand (tables reg.new nodes.new) places.new sheet.new out.new }
+    ensures at_hand { AtHand (tables reg.new nodes.new) places.new sheet.new out.new }
 {
     let mut n = from;
     let mut at = 0;
@@ -73,7 +80,7 @@ fn take_piece(
         if end == piece.len() {
             return n;
         }
-        reply_to(&kept[..n], reg, nodes, places, sheet, out);
+        reply_to(stdout, &kept[..n], reg, nodes, places, sheet, out);
         n = 0;
         at = end + 1;
     }
@@ -81,15 +88,18 @@ fn take_piece(
 }
 
 // A proved loop has to end, and nothing says that the input does: the turns fall, from a number that no run uses up.
-fn turns_left(turns: u64, got: isize) -> u64
+fn turns_left(turns: u64, got: usize) -> u64
     requires { 0 < turns }
     ensures { result < turns }
 {
-    if got <= 0 { 0 } else { turns - 1 }
+    if got == 0 { 0 } else { turns - 1 }
 }
 
-// Reads the input to its end, piece by piece, and answers its lines, from empty tables on. The last line may lack its line feed.
+// Reads the input to its end, piece by piece, and answers its lines, from empty tables on. The last line may lack its line feed. A read that
+// fails ends the input as its end does.
 fn serve(
+    stdin: &mut Stdin,
+    stdout: &mut Stdout,
     kept: &mut [u8],
     piece: &mut [u8],
     reg: &mut [u8],
@@ -98,23 +108,32 @@ fn serve(
     sheet: &mut [u8],
     out: &mut [u8],
 )
-    requires fact_1 { Keeps kept.old 0 }
-    requires fact_2 { tables reg.old nodes.old ≡ begun_desk }
-    requires fact_3 { Room places.old sheet.old out.old }
+    requires keeps { Keeps kept.old 0 }
+    requires begun { tables reg.old nodes.old ≡ begun_desk }
+    requires room { Room places.old sheet.old out.old }
     ensures { Serves (tables reg.new nodes.new) }
 {
     let mut n = 0;
     let mut turns = u64::MAX;
     while turns > 0 {
-        let got = libc::read(STDIN_FILENO, piece);
-        let size = io::count(got, piece);
-        n = take_piece(&piece[..size], kept, n, reg, nodes, places, sheet, out);
+        let got = stdin.read(piece).unwrap_or(0);
+        n = take_piece(
+            stdout,
+            &piece[..got],
+            kept,
+            n,
+            reg,
+            nodes,
+            places,
+            sheet,
+            out,
+        );
         turns = turns_left(turns, got);
     }
     if n == 0 {
         return;
     }
-    reply_to(&kept[..n], reg, nodes, places, sheet, out);
+    reply_to(stdout, &kept[..n], reg, nodes, places, sheet, out);
 }
 
 // The memory of the desk: "The register and index start empty". Each array is made by a function, so that a caller knows it by the contract
@@ -155,15 +174,17 @@ fn line_room() -> [u8; KEPT_BYTES]
     [0u8; KEPT_BYTES]
 }
 
-fn main() {
+fn main(rt: HostRuntime) {
     let mut reg = empty_register();
     let mut nodes = empty_nodes();
     let mut places = output_places();
     let mut sheet = sheet_room();
     let mut out = reply_room();
     let mut kept = line_room();
-    let mut piece = io::buffer();
+    let mut piece = [0u8; PIECE_BYTES];
     serve(
+        &mut rt.stdin(),
+        &mut rt.stdout(),
         &mut kept,
         &mut piece,
         &mut reg,

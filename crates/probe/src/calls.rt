@@ -6,7 +6,7 @@ use makers::{clear_maker, label, label_answer, set_maker, zero_makers};
 use register::{look_up, register_number, show, show_answer};
 
 // A reply, and the second and third number of a call that has them.
-#[derive(Drop)]
+#[derive(Clone, Copy)]
 pub struct Told {
     pub number: u8,
     pub value: usize,
@@ -15,7 +15,7 @@ pub struct Told {
 }
 
 // What a request comes to: an unknown letter, or a K that holds no bookmark where one is turned, breaks it.
-#[derive(Drop)]
+#[derive(Clone, Copy)]
 pub enum Called {
     Answers(Told),
     Broken,

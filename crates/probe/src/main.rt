@@ -6,6 +6,8 @@
 // blocks R M N P Q O K D as they stand after the call. Every number has the high byte first. Nothing is kept from one request
 // to the next. A broken request, one that is cut short, has an unknown letter, a block larger than its room or, to turn a
 // page, no bookmark in K, is answered by the one byte 255 and ends the program.
+#![tactic(auto)]
+
 ghost use Rattle.std.specs.Prelude.{◌<◌};
 
 mod calls;
@@ -17,6 +19,7 @@ mod writing;
 use calls::{Called, call};
 use marks::MARK_WORDS;
 use reading::{Next, Request, read_bytes, read_next, read_words};
+use std::io::{Stdin, Stdout};
 use writing::{write_answer, write_broken};
 
 // How many elements of each block there is room for: R and M, N, L, I, P and Q, O, D. In K there is room for a bookmark.
@@ -36,6 +39,7 @@ const DRAWERS_ROOM: usize = 1024;
 
 // Makes the call, lent the blocks of its request, and writes the answer: whether to go on.
 fn answer_request(
+    stdout: &mut Stdout,
     ask: Request,
     whole: bool,
     r: &mut [u8],
@@ -50,19 +54,21 @@ fn answer_request(
     d: &mut [u16],
 ) -> bool {
     if !whole {
-        write_broken();
+        write_broken(stdout);
         return false;
     }
     let Called::Answers(answer) = call(ask, r, m, n, l, i, p, q, o, k, d) else {
-        write_broken();
+        write_broken(stdout);
         return false;
     };
-    write_answer(ask, answer, r, m, n, p, q, o, k, d);
+    write_answer(stdout, ask, answer, r, m, n, p, q, o, k, d);
     true
 }
 
 // Reads the next request and answers it: whether to go on.
 fn serve_one(
+    stdin: &mut Stdin,
+    stdout: &mut Stdout,
     reg: &mut [u8],
     makers: &mut [u8],
     nodes: &mut [u16],
@@ -74,21 +80,21 @@ fn serve_one(
     mark: &mut [u16],
     drawers: &mut [u16],
 ) -> bool {
-    let Next::Asks(ask) = read_next() else {
+    let Next::Asks(ask) = read_next(stdin, stdout) else {
         return false;
     };
     let mut whole = true;
-    let r = read_bytes(reg, &mut whole);
-    let m = read_bytes(makers, &mut whole);
-    let n = read_words(nodes, &mut whole);
-    let l = read_words(list, &mut whole);
-    let i = read_bytes(input, &mut whole);
-    let p = read_words(places, &mut whole);
-    let q = read_words(seconds, &mut whole);
-    let o = read_bytes(output, &mut whole);
-    let k = read_words(mark, &mut whole);
-    let d = read_words(drawers, &mut whole);
-    answer_request(ask, whole, r, m, n, l, i, p, q, o, k, d)
+    let r = read_bytes(stdin, reg, &mut whole);
+    let m = read_bytes(stdin, makers, &mut whole);
+    let n = read_words(stdin, nodes, &mut whole);
+    let l = read_words(stdin, list, &mut whole);
+    let i = read_bytes(stdin, input, &mut whole);
+    let p = read_words(stdin, places, &mut whole);
+    let q = read_words(stdin, seconds, &mut whole);
+    let o = read_bytes(stdin, output, &mut whole);
+    let k = read_words(stdin, mark, &mut whole);
+    let d = read_words(stdin, drawers, &mut whole);
+    answer_request(stdout, ask, whole, r, m, n, l, i, p, q, o, k, d)
 }
 
 // A proved loop has to end, and nothing says that the input does: the turns fall, from a number that no run uses up.
@@ -99,7 +105,9 @@ fn turns_left(turns: u64, go: bool) -> u64
     if go { turns - 1 } else { 0 }
 }
 
-fn main() {
+fn main(rt: HostRuntime) {
+    let mut stdin = rt.stdin();
+    let mut stdout = rt.stdout();
     let mut reg = [0u8; REGISTER_ROOM];
     let mut makers = [0u8; REGISTER_ROOM];
     let mut nodes = [0u16; NODES_ROOM];
@@ -113,6 +121,8 @@ fn main() {
     let mut turns = u64::MAX;
     while turns > 0 {
         let go = serve_one(
+            &mut stdin,
+            &mut stdout,
             &mut reg,
             &mut makers,
             &mut nodes,

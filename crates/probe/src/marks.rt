@@ -16,8 +16,8 @@ pub const MARK_WORDS: usize = PLACES_AT + MOST_UNITS;
 
 // Copies 64 places from one index on to those from another on.
 fn copy_places(out: &mut [u16], at: usize, words: &[u16], from: usize)
-    requires fact_1 { at + most_units ≤ length out.old }
-    requires fact_2 { from + most_units ≤ length words.now }
+    requires room { at + most_units ≤ length out.old }
+    requires places_there { from + most_units ≤ length words.now }
 {
     let mut i = 0;
     while i < MOST_UNITS {

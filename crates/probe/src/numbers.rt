@@ -4,8 +4,10 @@ ghost use Rattle.std.specs.Prelude.{◌+◌, ◌*◌, ◌≤◌, length};
 // The bytes of a count or of one of an answer's values.
 pub const LONG_BYTES: usize = 4;
 
-// How many words go through `io::buffer()` at once.
+// How many words are read or written at once, and the bytes that they are.
 pub const WORDS_AT_ONCE: usize = 2048;
+
+pub const BYTES_AT_ONCE: usize = 4096;
 
 // The number that two bytes are.
 pub fn word(high: u8, low: u8) -> u16 {
@@ -29,8 +31,8 @@ pub fn put_long(out: &mut [u8], at: usize, n: usize)
 
 // Sets the n words from a place on to what the first bytes are.
 pub fn put_words(words: &mut [u16], at: usize, n: usize, bytes: &[u8])
-    requires fact_1 { at + n ≤ length words.old }
-    requires fact_2 { n * 2 ≤ length bytes.now }
+    requires words_there { at + n ≤ length words.old }
+    requires bytes_there { n * 2 ≤ length bytes.now }
 {
     let mut i = 0;
     while i < n {
@@ -41,8 +43,8 @@ pub fn put_words(words: &mut [u16], at: usize, n: usize, bytes: &[u8])
 
 // Sets the first bytes to what the n words from a place on are.
 pub fn put_bytes(bytes: &mut [u8], words: &[u16], at: usize, n: usize)
-    requires fact_1 { at + n ≤ length words.now }
-    requires fact_2 { n * 2 ≤ length bytes.old }
+    requires words_there { at + n ≤ length words.now }
+    requires bytes_there { n * 2 ≤ length bytes.old }
 {
     let mut i = 0;
     while i < n {
