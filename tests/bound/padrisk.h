@@ -1,4 +1,4 @@
-// The public calls as C sees them: crates/face, built by `rt staticlib face`. A slice is a pointer that is not null and then how
+// The public calls as C sees them: crates/face_c, built by `rt lib` there. A slice is a pointer that is not null and then how
 // many elements it has; what is lent to one call must not overlap unless both are const. The answer's number is returned, 0 for
 // done, and its value stands in *value, 0 where documents 01 and 02 state none.
 #ifndef PADRISK_H

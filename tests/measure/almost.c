@@ -1,5 +1,5 @@
 // Times the kits that a bin almost fills, asked in several ways. tests/measure_almost makes the
-// tables and the bins and builds this with the library from `rt staticlib`:
+// tables and the bins and builds this with the library from `rt lib`:
 //   gcc -O2 -fno-tree-vectorize almost.c LIBRARY
 // Usage: almost TABLES. Numbers in the file are of 32 bits; rows of words are a number, how many,
 // and the words (16 bits). The file has the number of tables, then for each rows of words: its

@@ -11,6 +11,8 @@ import tempfile
 MEASURE = pathlib.Path(__file__).resolve().parent
 ROOT = MEASURE.parents[1]
 EDITS = "must-fail"
+# What rt leaves in a crate's folder.
+OUT = "out"
 # The crate that lends functions to C, made of a file here.
 TIMED = "timed"
 COMPILERS = ("gcc", "cc")
@@ -61,15 +63,19 @@ def crates_below(text, crate):
 
 
 def listing(crates):
-    """The list of these crates, and of the one that is timed, on all of them."""
+    """The list of these crates, and of the archive that is timed, on all of them."""
     text = "".join("%s:%s\n" % line for line in crates.items())
-    return "%s%s: %s\n" % (text, TIMED, " ".join(crates))
+    return "%s%s staticlib: %s\n" % (text, TIMED, " ".join(crates))
 
 
 def empty_crates(folder):
-    """Leaves no crate there."""
-    shutil.rmtree(folder / "crates", ignore_errors=True)
-    (folder / "crates").mkdir(parents=True)
+    """Leaves no crate there, and of each only what rt left."""
+    (folder / "crates").mkdir(parents=True, exist_ok=True)
+    # The top of a repository, for rt.
+    (folder / ".git").mkdir(exist_ok=True)
+    for path in folder.glob("crates/*/*"):
+        if path.name != OUT:
+            shutil.rmtree(path) if path.is_dir() else path.unlink()
 
 
 def copy_crates(source, crates, folder):
@@ -77,7 +83,8 @@ def copy_crates(source, crates, folder):
     for path in crate_paths(crates):
         if not (source / path).is_dir():
             raise CannotMeasure("no folder %s" % (source / path))
-        shutil.copytree(source / path, folder / path)
+        shutil.copytree(source / path, folder / path, ignore=shutil.ignore_patterns(OUT),
+                        dirs_exist_ok=True)
 
 
 def without_edits(crates, folder):
@@ -95,10 +102,11 @@ def put_timed(folder, text, crates_text):
 
 
 def library(folder):
-    """Proves and builds the library in this folder: its path."""
+    """Proves and builds the archive in this folder: its path."""
     print("%s: proving and building in %s" % (program_name(), folder), file=sys.stderr)
-    done(["rt", "staticlib", TIMED], cwd=folder, stderr=subprocess.STDOUT)
-    return folder / "target" / "staticlib" / ("lib%s.a" % TIMED)
+    crate = folder / "crates" / TIMED
+    done(["rt", "lib"], cwd=crate, stdin=subprocess.DEVNULL, stderr=subprocess.STDOUT)
+    return crate / OUT / ("lib%s.a" % TIMED)
 
 
 def compiled(compiler, source, options, libraries, program):

@@ -1,5 +1,5 @@
 // Times checks of node tables beside a plain pass that reads every word once. tests/measure_nodes
-// makes the tables and builds this, with one library from `rt staticlib` for each check:
+// makes the tables and builds this, with one library from `rt lib` for each check:
 //   gcc -O2 -fno-tree-vectorize '-DCHECKS=CHECK(check_old) CHECK(check_here)' nodes.c LIBRARY..
 // Usage: nodes TABLES. The file has the number of tables, then for each the number of parts, the
 // number of nodes, 1 where it is sound or else 0 (all in 32 bits), and the words (16 bits). First

@@ -1,54 +1,26 @@
-"""Runs a built program on this processor.
-
-Programs are built for x86-64. The kit's folder is two above the page that `rt doc` names; below
-it, on/PROCESSOR/toolchain has the loader and, on another processor, qemu-x86_64.
-"""
+"""Runs a built program: once, in pieces, in conversation."""
 
 import fcntl
 import pathlib
-import platform
 import struct
 import subprocess
 import termios
 import threading
 import time
 
-BUILT_MARK = b"\x7fELF"
 LONGEST_RUN = 600
 
 
 class CannotRun(Exception):
-    """A program that is not there, or that this processor cannot run."""
+    """A program that is not there, or that cannot be built or run."""
 
 
 def command_for(program):
-    """The command that runs this program: a built one by the loader, a script as it is."""
-    program = pathlib.Path(program)
+    """The command that runs this program, a built one or a script."""
+    program = pathlib.Path(program).resolve()
     if not program.is_file():
-        raise CannotRun("no program %s; build it first" % program)
-    with program.open("rb") as file:
-        if file.read(len(BUILT_MARK)) != BUILT_MARK:
-            return [str(program)]
-    toolchain = kit_folder() / "on" / platform.machine() / "toolchain"
-    loader = toolchain / "lib" / "ld-linux-x86-64.so.2"
-    emulator = toolchain / "bin" / "qemu-x86_64"
-    if not loader.is_file():
-        raise CannotRun("no loader %s" % loader)
-    command = [str(loader), "--library-path", str(loader.parent), str(program)]
-    if platform.machine() != "x86_64":
-        if not emulator.is_file():
-            raise CannotRun("no emulator %s" % emulator)
-        command.insert(0, str(emulator))
-    return command
-
-
-def kit_folder():
-    """The kit's folder, from the page that `rt doc` names."""
-    try:
-        page = subprocess.run(["rt", "doc"], stdout=subprocess.PIPE, check=True).stdout
-    except (OSError, subprocess.CalledProcessError) as fault:
-        raise CannotRun("rt doc does not name the kit's page: %s" % fault) from fault
-    return pathlib.Path(page.decode().split("\n")[0].strip()).resolve().parents[1]
+        raise CannotRun("no program %s" % program)
+    return [str(program)]
 
 
 def output_of(command, data):
