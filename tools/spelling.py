@@ -60,7 +60,7 @@ def declared(text):
 
 
 def snake(name):
-    words = re.sub(r"(?<=[a-z0-9])[A-Z]", lambda m: "_" + m[0].lower(), name)
+    words = re.sub(r"(?<=[A-Za-z0-9])[A-Z]", lambda m: "_" + m[0].lower(), name)
     words = re.sub(r"(?<=[a-z0-9'])-(?=\w)", "_", words)
     return words
 
