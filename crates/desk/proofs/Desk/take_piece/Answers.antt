@@ -1,7 +1,7 @@
 -- The lines that the piece has ended are answered; what is kept of the next is enough to tell an overlong one.
 use Rattle.std.proofs.Common.{◌<◌, length, arith}
 use Rattle.desk.proofs.Serving.{starts, line_goes_on, line_ends, piece_done}
-use Rattle.desk.proofs.take_piece.Goals as goal
+use Rattle.desk.proofs.Desk.take_piece.Goals as goal
 
 pub loop-at-init : goal.loop-at-init
 loop-at-init c = starts _ _ _ _ _ _ _ c.requires.keeps c.requires.at_hand
