@@ -3,14 +3,13 @@
 #![tactic(auto)]
 
 ghost use Rattle.std.specs.Prelude.{◌≡◌};
-ghost use Rattle.ground.specs.Calls.{is_refused, number_of, value_of};
-ghost use Rattle.answers.specs.Answers.{reply};
+ghost use Rattle.ground.specs.Calls.{number_of, value_of};
+ghost use Rattle.answers.specs.Answers.{reply, refusal};
 ghost use Rattle.answers.specs.Inner.{Means};
 
-// A call is done, with its value, or refused; a refusal that has a value carries it.
-#[derive(Clone, Copy)]
-pub enum Answer {
-    Done(usize),
+// Why a call is refused; a refusal that has a value carries it.
+#[derive(Clone, Copy, Debug, PartialEq, Eq)]
+pub enum Refusal {
     WrongLength,
     NotSound,
     BadNumber,
@@ -41,31 +40,10 @@ pub enum Answer {
     NoUnits,
 }
 
-pub fn refused(a: Answer) -> bool
-    ensures { result ≡ is_refused (reply a) }
-{
-    match a {
-        Answer::Done(_) => false,
-        Answer::WrongLength => true,
-        Answer::NotSound => true,
-        Answer::BadNumber => true,
-        Answer::Unordered(_) => true,
-        Answer::Unregistered(_) => true,
-        Answer::Amount(_) => true,
-        Answer::TooMany => true,
-        Answer::NoTag => true,
-        Answer::Held(_) => true,
-        Answer::TagBorne => true,
-        Answer::NotHeld(_) => true,
-        Answer::NoRoom(_) => true,
-        Answer::Fault(_) => true,
-        Answer::TooFar => true,
-        Answer::BadBookmark => true,
-        Answer::Punctuated => true,
-        Answer::NoUnits => true,
-    }
-}
+// A call is done, with its value, or refused.
+pub type Answer = Result<usize, Refusal>;
 
+// The numbers by which C and the lines of the desk tell an answer: a format, so they stay numbers here, at the edge alone.
 const DONE: u8 = 0;
 
 const WRONG_LENGTH: u8 = 1;
@@ -109,64 +87,60 @@ pub struct Reply {
     pub value: usize,
 }
 
-// The number of an answer.
-fn number_of(a: Answer) -> u8
-    ensures { result ≡ number_of (reply a) }
-{
-    match a {
-        Answer::Done(_) => DONE,
-        Answer::WrongLength => WRONG_LENGTH,
-        Answer::NotSound => NOT_SOUND,
-        Answer::BadNumber => BAD_NUMBER,
-        Answer::Unordered(_) => UNORDERED,
-        Answer::Unregistered(_) => UNREGISTERED,
-        Answer::Amount(_) => AMOUNT,
-        Answer::TooMany => TOO_MANY,
-        Answer::NoTag => NO_TAG,
-        Answer::Held(_) => HELD,
-        Answer::TagBorne => TAG_BORNE,
-        Answer::NotHeld(_) => NOT_HELD,
-        Answer::NoRoom(_) => NO_ROOM,
-        Answer::Fault(_) => FAULT,
-        Answer::TooFar => TOO_FAR,
-        Answer::BadBookmark => BAD_BOOKMARK,
-        Answer::Punctuated => PUNCTUATED,
-        Answer::NoUnits => NO_UNITS,
+impl Refusal {
+    fn number(self) -> u8
+        ensures { result ≡ number_of (refusal self) }
+    {
+        match self {
+            Refusal::WrongLength => WRONG_LENGTH,
+            Refusal::NotSound => NOT_SOUND,
+            Refusal::BadNumber => BAD_NUMBER,
+            Refusal::Unordered(_) => UNORDERED,
+            Refusal::Unregistered(_) => UNREGISTERED,
+            Refusal::Amount(_) => AMOUNT,
+            Refusal::TooMany => TOO_MANY,
+            Refusal::NoTag => NO_TAG,
+            Refusal::Held(_) => HELD,
+            Refusal::TagBorne => TAG_BORNE,
+            Refusal::NotHeld(_) => NOT_HELD,
+            Refusal::NoRoom(_) => NO_ROOM,
+            Refusal::Fault(_) => FAULT,
+            Refusal::TooFar => TOO_FAR,
+            Refusal::BadBookmark => BAD_BOOKMARK,
+            Refusal::Punctuated => PUNCTUATED,
+            Refusal::NoUnits => NO_UNITS,
+        }
+    }
+
+    // What it carries, 0 where it carries nothing.
+    fn value(self) -> usize
+        ensures { result ≡ value_of (refusal self) }
+    {
+        match self {
+            Refusal::Unordered(v)
+            | Refusal::Unregistered(v)
+            | Refusal::Amount(v)
+            | Refusal::Held(v)
+            | Refusal::NotHeld(v)
+            | Refusal::NoRoom(v)
+            | Refusal::Fault(v) => v,
+            _ => 0,
+        }
     }
 }
 
-// What an answer carries, 0 where it carries nothing.
-fn value_of(a: Answer) -> usize
-    ensures { result ≡ value_of (reply a) }
-{
-    match a {
-        Answer::Done(v) => v,
-        Answer::WrongLength => 0,
-        Answer::NotSound => 0,
-        Answer::BadNumber => 0,
-        Answer::Unordered(v) => v,
-        Answer::Unregistered(v) => v,
-        Answer::Amount(v) => v,
-        Answer::TooMany => 0,
-        Answer::NoTag => 0,
-        Answer::Held(v) => v,
-        Answer::TagBorne => 0,
-        Answer::NotHeld(v) => v,
-        Answer::NoRoom(v) => v,
-        Answer::Fault(v) => v,
-        Answer::TooFar => 0,
-        Answer::BadBookmark => 0,
-        Answer::Punctuated => 0,
-        Answer::NoUnits => 0,
-    }
-}
-
-// An answer as it is printed.
+// An answer as it is printed. No `From`: its clause would stand in a ghost member, and read no plainer than this one.
 pub fn reply_of(a: Answer) -> Reply
     ensures { Means result (reply a) }
 {
-    Reply {
-        number: number_of(a),
-        value: value_of(a),
+    match a {
+        Ok(value) => Reply {
+            number: DONE,
+            value,
+        },
+        Err(r) => Reply {
+            number: r.number(),
+            value: r.value(),
+        },
     }
 }

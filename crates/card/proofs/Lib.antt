@@ -7,4 +7,3 @@ pub mod Written
 pub mod Accepted
 pub mod Codec
 pub mod Offsets
-pub mod Before

@@ -44,32 +44,18 @@ pub const KIT_WORDS: usize = MOST_UNITS * LINE_WORDS;
 pub fn number_before(a: &[u8], b: &[u8]) -> bool
     ensures { result ≡ before a.now b.now }
 {
-    let mut i = 0;
-    while i < a.len() {
-        if i == b.len() {
-            return false;
-        }
-        if a[i] != b[i] {
-            return a[i] < b[i];
-        }
-        i += 1;
-    }
-    i < b.len()
+    a < b
 }
 
 // Sets a line down at a word of a list of so many words: what stood from there on moves up by a line.
 pub fn put_line_at(list: &mut [u16], words: usize, at: usize, place: u16, quantity: u16)
-    requires fact_1 { at ≤ words }
-    requires fact_2 { words + line_words ≤ length list.old }
-    ensures fact_1 { take (words + line_words) list.new ≡
+    requires inside { at ≤ words }
+    requires room { words + line_words ≤ length list.old }
+    ensures put { take (words + line_words) list.new ≡
         take at list.old ++ (place ∷ quantity ∷ drop at (take words list.old)) }
-    ensures fact_2 { length list.new ≡ length list.old }
+    ensures len { length list.new ≡ length list.old }
 {
-    let mut i = words;
-    while at < i {
-        i -= 1;
-        list[i + LINE_WORDS] = list[i];
-    }
-    list[at + 1] = quantity;
+    list.copy_within(at..words, at + LINE_WORDS);
     list[at] = place;
+    list[at + 1] = quantity;
 }

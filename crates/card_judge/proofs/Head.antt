@@ -1,7 +1,9 @@
 -- Laws of the head of a card: mark, version, tag and line count, each whole and then right; the first that is not is the first fault.
-use mathlib.Core.Path.{◌≡◌, refl, sym, ◌∙◌}
-use mathlib.Core.Bool.{true, false}
-use mathlib.Core.List.{List}
+use mathlib.Core.Path.{◌≡◌, refl, ap, sym, ◌∙◌}
+use mathlib.Core.Bool.{Bool, true, false, ◌&&◌}
+use mathlib.Core.List.{List, [], ◌∷◌}
+use lib.Pointwise.{pointwise}
+use Rattle.std.specs.Prelude.{nat_eq}
 use Prim.Native.Nat.{ℕ, ◌≤◌, ◌<◌}
 use native.Mathlib.Omega.{arith}
 use lib.ListN.{length, take, drop, get_or}
@@ -24,27 +26,37 @@ any_good : (b : List ℕ) → any_count b ≡ true
 unfolding any_count
 any_good b = refl
 
+-- two stretches of bytes, as the code compares them
+pub same_bytes : (a b : List ℕ) → pointwise nat_eq a b ≡ eq_list a b
+unfolding eq_list
+same_bytes [] [] = refl
+same_bytes [] (y ∷ b) = refl
+same_bytes (x ∷ a) [] = refl
+same_bytes (x ∷ a) (y ∷ b) = ap (λ (t : Bool). nat_eq x y && t) (same_bytes a b)
+
+-- the mark is read, and is a card's
+pub record Marked (s : List ℕ) : Type 0 where
+  pub long : mark_bytes ≤ length s
+  pub is : eq_list card_mark (take mark_bytes s) ≡ true
+
 module _ (s : List ℕ) where
   mark_fault : one (bytes mark_bytes) (eq_list card_mark) s 0 ≡ fault 0 → decode_card s ≡ fault 0
   unfolding decode_card onward
   mark_fault e = rw e
 
-  pub no_mark : length s < mark_bytes → decode_card s ≡ fault 0
-  no_mark h = mark_fault (bytes_short mark_bytes (eq_list card_mark) s 0 (omega arith) (omega arith))
-
   pub bad_mark : eq_list card_mark (take mark_bytes s) ≡ false → decode_card s ≡ fault 0
   bad_mark f = mark_fault (bytes_bad mark_bytes (eq_list card_mark) s 0 f)
 
-  module _ (h : mark_bytes ≤ length s) (m : eq_list card_mark (take mark_bytes s) ≡ true) where
+  module _ (M : Marked s) where
     mark_item : one (bytes mark_bytes) (eq_list card_mark) s 0 ≡ item (take mark_bytes s) (drop version_at s) version_at
-    mark_item = bytes_ok mark_bytes (eq_list card_mark) s 0 h m
+    mark_item = bytes_ok mark_bytes (eq_list card_mark) s 0 M.long M.is
 
     version_fault : one (bytes two_bytes) is_card_version (drop version_at s) version_at ≡ fault version_at → decode_card s ≡ fault version_at
     unfolding decode_card onward
     version_fault e = let f = mark_item in rw (f, e)
 
     pub no_version : length s < card_tag_at → decode_card s ≡ fault version_at
-    no_version k = version_fault (bytes_short two_bytes is_card_version s version_at h (omega arith))
+    no_version k = version_fault (bytes_short two_bytes is_card_version s version_at M.long (omega arith))
 
     -- the version v, as it was read
     module _ (v : ℕ) (read : v ≡ from_bytes (take two_bytes (drop version_at s))) where

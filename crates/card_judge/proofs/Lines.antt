@@ -8,20 +8,18 @@ use native.Mathlib.Omega.{arith}
 use lib.ListN.{length, take, drop, get_or, length-drop}
 use lib.Dec.{leb}
 use lib.Seq.{get_or-take, get_or-drop, take-take, drop-drop}
-use borrow.Author.Tests.{leb-true, le-leb, lt-leb, eq-eqb, ne_eqb}
+use borrow.Author.Tests.{leb-true, le-leb, lt-leb}
+use Rattle.std.specs.Prelude.{Option, None, Some}
 use Rattle.ground.specs.Lists.{every}
 use Rattle.ground.proofs.Laws.{every_at}
 use Rattle.repeats.specs.Inner.{number_here, next_place}
-use Rattle.kits.specs.Kits.{before, most_quantity, most_units}
-use Rattle.register.specs.Number.{good_number}
+use Rattle.kits.specs.Kits.{before, most_units}
 use Rattle.register.specs.Register.{number_in}
-use Rattle.sheet.specs.Inner.{place_of}
 use Rattle.sheet.specs.Reading.{item, fault, one, number_size}
-use Rattle.sheet.proofs.Items.{place_moved, place_stays, Moved}
 use Rattle.sheet.proofs.Places.{size_here, drop_taken}
 use Rattle.card.specs.Card.{NamedLine, units_said}
 use Rattle.card.specs.Reading.{named_size, named_in, rises_over, new_line}
-use Rattle.card_judge.specs.Inner.{line_here, comes_next, amount_passes, line_passes, line_end}
+use Rattle.card_judge.specs.Inner.{line_here, comes_next, line_passes, line_end}
 
 ------------------------------------------------------------------------
 -- The line at a place
@@ -55,94 +53,78 @@ module _ (s : List ℕ) (at : ℕ) where
   unfolding named_in
   line_here_lem = λ t. record { number = number_is t; quantity = quantity_is t }
 
+-- the number before: none, or one that is known
+first_passes : (s n : List ℕ) → true ≡ comes_next s None n
+first_passes s n = refl
+
+later_told : (s : List ℕ) (p : ℕ) (n : List ℕ) {r : Bool} → r ≡ before (number_here s p) n → r ≡ comes_next s (Some p) n
+later_told s p n e = e
+
 ------------------------------------------------------------------------
 -- What it passes by
 
--- the number before
-module _ (s : List ℕ) (k prev : ℕ) (n : List ℕ) where
-  pub first_passes : k ≡ 0 → true ≡ comes_next s k prev n
-  unfolding comes_next
-  first_passes e = rw (eq-eqb k 0 e)
-
-  pub later_told : {r : Bool} → (k ≡ 0 → ⊥) → r ≡ before (number_here s prev) n → r ≡ comes_next s k prev n
-  unfolding comes_next
-  later_told f e = rw (ne_eqb k 0 f) e
-
-pub next_rises : (s : List ℕ) (k at : ℕ) (x : NamedLine) (seen : List NamedLine) → x.number ≡ number_here s at →
-    (n : List ℕ) → rises_over n (x ∷ seen) ≡ comes_next s (k + 1) at n
+-- behind a line more
+pub next_rises : (s : List ℕ) (at : ℕ) (x : NamedLine) (seen : List NamedLine) → x.number ≡ number_here s at →
+    (n : List ℕ) → rises_over n (x ∷ seen) ≡ comes_next s (Some at) n
 unfolding rises_over
-next_rises s k at x seen e n = later_told s (k + 1) at n (omega arith) (ap (λ (m : List ℕ). before m n) e)
-
--- the quantity
-module _ (units q : ℕ) where
-  pub no_amount : q ≡ 0 → false ≡ amount_passes units q
-  unfolding amount_passes
-  no_amount e = rw (eq-eqb q 0 e)
-
-  module _ (some : (q ≡ 0 → ⊥)) where
-    pub much_amount : most_quantity < q → false ≡ amount_passes units q
-    unfolding amount_passes
-    much_amount h = rw (ne_eqb q 0 some, lt-leb q most_quantity h)
-
-    pub room_told : q ≤ most_quantity → leb (units + q) most_units ≡ amount_passes units q
-    unfolding amount_passes
-    room_told h = rw (ne_eqb q 0 some, le-leb q most_quantity h)
-
--- each in turn
-module _ (s : List ℕ) (k prev units at : ℕ) where
-  pub number_bad : good_number (number_here s at) ≡ false → false ≡ line_passes s k prev units at
-  unfolding line_passes
-  number_bad e = rw e
-
-  module _ (good : good_number (number_here s at) ≡ true) where
-    pub order_bad : comes_next s k prev (number_here s at) ≡ false → false ≡ line_passes s k prev units at
-    unfolding line_passes
-    order_bad e = rw (good, e)
-
-    pub amount_told : comes_next s k prev (number_here s at) ≡ true → amount_passes units (get_or s (next_place s at) 0) ≡ line_passes s k prev units at
-    unfolding line_passes
-    amount_told e = rw (good, e)
+next_rises s at x seen e n = ap (λ (m : List ℕ). before m n) e
 
 ------------------------------------------------------------------------
 -- Where it ends
 
-module _ (s : List ℕ) (k prev units at : ℕ) where
-  pub end_cut : at ≤ length s → length s - at < 1 + (get_or s at 0 + 1) → at ≡ line_end s k prev units at
+module _ (s : List ℕ) (prev : Option ℕ) (units at : ℕ) where
+  pub end_cut : at ≤ length s → length s - at < 1 + (get_or s at 0 + 1) → None ≡ line_end s prev units at
   unfolding line_end
   end_cut h l = rw (lt-leb (named_size (drop at s)) (length (drop at s)) (omega (arith, line_size s at, length-drop at s)))
 
-  pub end_bad : line_passes s k prev units at ≡ false → at ≡ line_end s k prev units at
+  pub end_bad : line_passes s prev units at ≡ false → None ≡ line_end s prev units at
   unfolding line_end
   end_bad g = rw (g, and-false)
 
-  pub end_good : (n : ℕ) → n ≡ 1 + (get_or s at 0 + 1) → at ≤ length s → n ≤ length s - at → line_passes s k prev units at ≡ true →
-      at + n ≡ line_end s k prev units at
+  pub end_good : (n : ℕ) → n ≡ 1 + (get_or s at 0 + 1) → at ≤ length s → n ≤ length s - at → line_passes s prev units at ≡ true →
+      Some (at + n) ≡ line_end s prev units at
   unfolding line_end
   end_good n e h l g =
-      rw (le-leb (named_size (drop at s)) (length (drop at s)) (omega (arith, line_size s at, length-drop at s)), g)
-      (omega (arith, line_size s at))
+      let z : n ≡ named_size (drop at s) = omega (arith, line_size s at) in
+      rw (le-leb (named_size (drop at s)) (length (drop at s)) (omega (arith, line_size s at, length-drop at s)), g, z)
 
   -- behind lines seen that have these units, the last of which starts at prev
-  module _ (seen : List NamedLine) (sum : units ≡ units_said seen) (rises : (n : List ℕ) → rises_over n seen ≡ comes_next s k prev n) where
-    line_told : new_line seen (bytes_here s at) ≡ line_passes s k prev units at
-    unfolding new_line every line_passes amount_passes
+  module _ (seen : List NamedLine) (sum : units ≡ units_said seen) (rises : (n : List ℕ) → rises_over n seen ≡ comes_next s prev n) where
+    line_told : new_line seen (bytes_here s at) ≡ line_passes s prev units at
+    unfolding new_line every
     line_told = rw (line_here_lem s at, rises (number_here s at), sum, and-true) refl
 
-    place_told : line_end s k prev units at ≡ place_of (one named_size (new_line seen) (drop at s) at)
-    unfolding line_end place_of one
-    place_told = rw (line_told) (go (leb (named_size (drop at s)) (length (drop at s)) && line_passes s k prev units at))
+    -- the line as the reader takes it, where it passes
+    pub record Taken (r : ℕ) : Type 0 where
+      pub inside : named_size (drop at s) ≤ length (drop at s)
+      pub is_good : new_line seen (bytes_here s at) ≡ true
+      pub is : one named_size (new_line seen) (drop at s) at
+          ≡ item (bytes_here s at) (drop (named_size (drop at s)) (drop at s)) (at + named_size (drop at s))
+      pub ends : r ≡ at + named_size (drop at s)
+
+    pub line_stays : None ≡ line_end s prev units at → one named_size (new_line seen) (drop at s) at ≡ fault at
+    unfolding line_end one
+    line_stays e = rw line_told (go (leb (named_size (drop at s)) (length (drop at s)) && line_passes s prev units at) e)
       where
-        go : (x : Bool) → cond x (at + named_size (drop at s)) at
-            ≡ place_of (cond x (item (bytes_here s at) (drop (named_size (drop at s)) (drop at s)) (at + named_size (drop at s))) (fault at))
-        go true = refl
-        go false = refl
+        go : (x : Bool) → None ≡ cond x (Some (at + named_size (drop at s))) None →
+            cond x (item (bytes_here s at) (drop (named_size (drop at s)) (drop at s)) (at + named_size (drop at s))) (fault at) ≡ fault at
+        go true e = cc
+        go false e = refl
 
-    module _ (r : ℕ) (ends : r ≡ line_end s k prev units at) where
-      pub line_stays : r ≡ at → one named_size (new_line seen) (drop at s) at ≡ fault at
-      line_stays e = place_stays named_size (new_line seen) (drop at s) at r (omega (arith, line_size s at)) (ends ∙ place_told) e
-
-      pub line_moves : (r ≡ at → ⊥) → Moved named_size (new_line seen) (drop at s) at r
-      line_moves f = place_moved named_size (new_line seen) (drop at s) at r (ends ∙ place_told) f
+    pub line_moves : (r : ℕ) → Some r ≡ line_end s prev units at → Taken r
+    unfolding line_end one
+    line_moves r e = go (leb (named_size (drop at s)) (length (drop at s))) refl (line_passes s prev units at) refl e
+      where
+        go : (x : Bool) → leb (named_size (drop at s)) (length (drop at s)) ≡ x → (y : Bool) → line_passes s prev units at ≡ y →
+            Some r ≡ cond (x && y) (Some (at + named_size (drop at s))) None → Taken r
+        go true l true g h = record {
+          inside = leb-true (named_size (drop at s)) (length (drop at s)) l;
+          is_good = line_told ∙ g;
+          is = rw (line_told, l, g) refl;
+          ends = cc;
+        }
+        go true l false g h = cc
+        go false l y g h = cc
 
 -- a line that passes leaves the units few
 pub units_few : (seen : List NamedLine) (b : List ℕ) → new_line seen b ≡ true → units_said seen + (named_in b).quantity ≤ most_units

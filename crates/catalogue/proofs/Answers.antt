@@ -39,8 +39,7 @@ use Rattle.sheet.specs.declared.Report.{Report}
 use Rattle.sheet_read.specs.Inner as filling
 use Rattle.sheet_read.specs.declared.Salvaged.{Salvaged}
 use Rattle.sheet_read.proofs.Promised.{reported_refused}
-use Rattle.answers.specs.declared.Answer.{Answer}
-use Rattle.answers.specs.Answers.{reply}
+use Rattle.answers.specs.Answers.{Answer, reply}
 use Rattle.ground.specs.Tables.{Tables, tables}
 use Rattle.tables.specs.Lent.{part_count, lengths, lent_both, lent_list}
 use Rattle.catalogue.specs.Calls.{contents, emptying, inserting, finding, deleting, counting, any_kit, all_kits, almost_kits, turning}

@@ -24,8 +24,7 @@ use Rattle.card.specs.Card.{card_of, encode_card, list_on}
 use Rattle.card.specs.Reading.{decode_card, said_card}
 use Rattle.card.specs.Calls.{card_refusals}
 use Rattle.sheet_read.specs.declared.Salvaged.{Salvaged}
-use Rattle.answers.specs.declared.Answer.{Answer}
-use Rattle.answers.specs.Answers.{reply}
+use Rattle.answers.specs.Answers.{Answer, reply}
 use Rattle.ground.specs.Tables.{Tables, tables}
 use Rattle.tables.specs.Lent.{part_count, lengths, lent_both, lent_list}
 

@@ -4,14 +4,14 @@
 
 ghost use Rattle.std.specs.Prelude.{◌≡◌};
 ghost use Rattle.ground.specs.Calls.{answer, SetsBoth};
-ghost use Rattle.questions.specs.Questions.{is_within, is_containing};
 ghost use Rattle.ground.specs.Tables.{tables};
 ghost use Rattle.answers.specs.Answers.{reply};
 ghost use Rattle.catalogue.specs.Calls.{emptying, inserting, finding, deleting, counting, any_kit, all_kits, almost_kits, writing, reading};
 ghost use Rattle.catalogue.specs.Calls.{writing_card, reading_card, Leaves, Sets, Turns, Rescues};
 
-use answers::{Answer, refused};
-use pages::{Bookmark, Page};
+use answers::Answer;
+use pages::{Bookmark, Page, Paged};
+use questions::Question;
 use sheet_read::{Salvaged, report_of};
 use tables::{check_lengths, check_tables};
 
@@ -21,23 +21,17 @@ pub mod sound;
 pub fn empty(reg: &mut [u8], nodes: &mut [u16]) -> Answer
     ensures { Leaves emptying reg.old nodes.old result reg.new nodes.new }
 {
-    let sized = check_lengths(reg, nodes);
-    if refused(sized) {
-        return sized;
-    }
+    check_lengths(reg, nodes)?;
     ground::clear(reg);
     nodes::clear_nodes(nodes);
-    Answer::Done(0)
+    Ok(0)
 }
 
 // Inserts a list with a tag: the nodes newly taken.
 pub fn insert(reg: &[u8], nodes: &mut [u16], list: &[u16], tag: u16) -> Answer
     ensures { Leaves (inserting list.now tag) reg.now nodes.old result reg.now nodes.new }
 {
-    let lent = check_tables(reg, nodes);
-    if refused(lent) {
-        return lent;
-    }
+    check_tables(reg, nodes)?;
     sound::insert(reg, nodes, list, tag)
 }
 
@@ -45,10 +39,7 @@ pub fn insert(reg: &[u8], nodes: &mut [u16], list: &[u16], tag: u16) -> Answer
 pub fn find(reg: &[u8], nodes: &[u16], list: &[u16]) -> Answer
     ensures { reply result ≡ answer (finding list.now (tables reg.now nodes.now)) }
 {
-    let lent = check_tables(reg, nodes);
-    if refused(lent) {
-        return lent;
-    }
+    check_tables(reg, nodes)?;
     sound::find(reg, nodes, list)
 }
 
@@ -56,10 +47,7 @@ pub fn find(reg: &[u8], nodes: &[u16], list: &[u16]) -> Answer
 pub fn delete(reg: &[u8], nodes: &mut [u16], list: &[u16]) -> Answer
     ensures { Leaves (deleting list.now) reg.now nodes.old result reg.now nodes.new }
 {
-    let lent = check_tables(reg, nodes);
-    if refused(lent) {
-        return lent;
-    }
+    check_tables(reg, nodes)?;
     sound::delete(reg, nodes, list)
 }
 
@@ -67,55 +55,24 @@ pub fn delete(reg: &[u8], nodes: &mut [u16], list: &[u16]) -> Answer
 pub fn count_beginning(reg: &[u8], nodes: &[u16], list: &[u16]) -> Answer
     ensures { reply result ≡ answer (counting list.now (tables reg.now nodes.now)) }
 {
-    let lent = check_tables(reg, nodes);
-    if refused(lent) {
-        return lent;
-    }
+    check_tables(reg, nodes)?;
     sound::count_beginning(reg, nodes, list)
 }
 
-// Any kit within the bin: the tag of the first in listing order, or 0.
-pub fn any_within(reg: &[u8], nodes: &[u16], bin: &[u16]) -> Answer
-    ensures { reply result ≡ answer (any_kit is_within bin.now (tables reg.now nodes.now)) }
+// Any kit of which the question holds, within the bin or containing the list: the tag of the first in listing order, or 0.
+pub fn any<Q: Question>(reg: &[u8], nodes: &[u16], list: &[u16]) -> Answer
+    ensures { reply result ≡ answer (any_kit Q.asks list.now (tables reg.now nodes.now)) }
 {
-    let lent = check_tables(reg, nodes);
-    if refused(lent) {
-        return lent;
-    }
-    sound::any_within(reg, nodes, bin)
+    check_tables(reg, nodes)?;
+    sound::any::<Q>(reg, nodes, list)
 }
 
-// Any kit containing the list: the tag of the first in listing order, or 0.
-pub fn any_containing(reg: &[u8], nodes: &[u16], list: &[u16]) -> Answer
-    ensures { reply result ≡ answer (any_kit is_containing list.now (tables reg.now nodes.now)) }
+// All kits of which it holds: their tags in listing order at the start of the output.
+pub fn all<Q: Question>(reg: &[u8], nodes: &[u16], list: &[u16], out: &mut [u16]) -> Answer
+    ensures { Sets (all_kits Q.asks list.now (tables reg.now nodes.now)) out.old result out.new }
 {
-    let lent = check_tables(reg, nodes);
-    if refused(lent) {
-        return lent;
-    }
-    sound::any_containing(reg, nodes, list)
-}
-
-// All kits within the bin: their tags in listing order at the start of the output.
-pub fn all_within(reg: &[u8], nodes: &[u16], bin: &[u16], out: &mut [u16]) -> Answer
-    ensures { Sets (all_kits is_within bin.now (tables reg.now nodes.now)) out.old result out.new }
-{
-    let lent = check_tables(reg, nodes);
-    if refused(lent) {
-        return lent;
-    }
-    sound::all_within(reg, nodes, bin, out)
-}
-
-// All kits containing the list: their tags in listing order at the start of the output.
-pub fn all_containing(reg: &[u8], nodes: &[u16], list: &[u16], out: &mut [u16]) -> Answer
-    ensures { Sets (all_kits is_containing list.now (tables reg.now nodes.now)) out.old result out.new }
-{
-    let lent = check_tables(reg, nodes);
-    if refused(lent) {
-        return lent;
-    }
-    sound::all_containing(reg, nodes, list, out)
+    check_tables(reg, nodes)?;
+    sound::all::<Q>(reg, nodes, list, out)
 }
 
 // All kits that the bin fills but for at most d units: their tags in listing order at the start of the one output, and the shortfall of each at the
@@ -131,50 +88,29 @@ pub fn all_almost(
     ensures { SetsBoth (almost_kits d bin.now (tables reg.now nodes.now)) tags.old shorts.old
         (reply result) tags.new shorts.new }
 {
-    let lent = check_tables(reg, nodes);
-    if refused(lent) {
-        return lent;
-    }
+    check_tables(reg, nodes)?;
     sound::all_almost(reg, nodes, bin, d, tags, shorts)
 }
 
-// The next page of the kits within the bin: the tag of the first kit after the bookmark's row, or 0 where none is left; and the bookmark at that kit,
-// or as it was. By value: `turning` moves a lent one on in place.
-pub fn page_within(reg: &[u8], nodes: &[u16], bin: &[u16], mark: Bookmark) -> Page
-    ensures { Turns is_within reg.now nodes.now bin.now mark result.answer result.mark }
+// The next page of the kits of which it holds: the tag of the first kit after the bookmark's row, or 0 where none is left; and the bookmark at that
+// kit, or as it was. By value: `turning` moves a lent one on in place.
+pub fn next_page<Q: Paged>(reg: &[u8], nodes: &[u16], list: &[u16], mark: Bookmark) -> Page
+    ensures { Turns Q.asks reg.now nodes.now list.now mark result.answer result.mark }
 {
-    let lent = check_tables(reg, nodes);
-    if refused(lent) {
+    if let Err(refusal) = check_tables(reg, nodes) {
         return Page {
-            answer: lent,
-            mark: mark,
+            answer: Err(refusal),
+            mark,
         };
     }
-    sound::page_within(reg, nodes, bin, mark)
-}
-
-// The next page of the kits containing the list, alike.
-pub fn page_containing(reg: &[u8], nodes: &[u16], list: &[u16], mark: Bookmark) -> Page
-    ensures { Turns is_containing reg.now nodes.now list.now mark result.answer result.mark }
-{
-    let lent = check_tables(reg, nodes);
-    if refused(lent) {
-        return Page {
-            answer: lent,
-            mark: mark,
-        };
-    }
-    sound::page_containing(reg, nodes, list, mark)
+    sound::next_page::<Q>(reg, nodes, list, mark)
 }
 
 // Writes the sheet at the start of the output: the bytes written.
 pub fn write_sheet(reg: &[u8], nodes: &[u16], out: &mut [u8]) -> Answer
     ensures { Sets (writing (tables reg.now nodes.now)) out.old result out.new }
 {
-    let lent = check_tables(reg, nodes);
-    if refused(lent) {
-        return lent;
-    }
+    check_tables(reg, nodes)?;
     sound::write_sheet(reg, nodes, out)
 }
 
@@ -182,10 +118,7 @@ pub fn write_sheet(reg: &[u8], nodes: &[u16], out: &mut [u8]) -> Answer
 pub fn read_sheet(reg: &mut [u8], nodes: &mut [u16], s: &[u8]) -> Answer
     ensures { Leaves (reading s.now) reg.old nodes.old result reg.new nodes.new }
 {
-    let sized = check_lengths(reg, nodes);
-    if refused(sized) {
-        return sized;
-    }
+    check_lengths(reg, nodes)?;
     sheet_read::read_sheet(reg, nodes, s)
 }
 
@@ -194,11 +127,11 @@ pub fn read_sheet(reg: &mut [u8], nodes: &mut [u16], s: &[u8]) -> Answer
 pub fn salvage(reg: &mut [u8], nodes: &mut [u16], s: &[u8]) -> Salvaged
     ensures { Rescues s.now reg.old nodes.old result reg.new nodes.new }
 {
-    let sized = check_lengths(reg, nodes);
-    if refused(sized) {
+    if let Err(refusal) = check_lengths(reg, nodes) {
+        let answer = Err(refusal);
         return Salvaged {
-            answer: sized,
-            report: report_of(sized, 0, 0),
+            answer,
+            report: report_of(answer, 0, 0),
         };
     }
     sheet_read::salvage(reg, nodes, s)
@@ -208,10 +141,7 @@ pub fn salvage(reg: &mut [u8], nodes: &mut [u16], s: &[u8]) -> Salvaged
 pub fn write_card(reg: &[u8], nodes: &[u16], list: &[u16], out: &mut [u8]) -> Answer
     ensures { Sets (writing_card list.now (tables reg.now nodes.now)) out.old result out.new }
 {
-    let lent = check_tables(reg, nodes);
-    if refused(lent) {
-        return lent;
-    }
+    check_tables(reg, nodes)?;
     sound::write_card(reg, nodes, list, out)
 }
 
@@ -219,9 +149,6 @@ pub fn write_card(reg: &[u8], nodes: &[u16], list: &[u16], out: &mut [u8]) -> An
 pub fn read_card(reg: &[u8], nodes: &mut [u16], s: &[u8]) -> Answer
     ensures { Leaves (reading_card s.now) reg.now nodes.old result reg.now nodes.new }
 {
-    let lent = check_tables(reg, nodes);
-    if refused(lent) {
-        return lent;
-    }
+    check_tables(reg, nodes)?;
     sound::read_card(reg, nodes, s)
 }

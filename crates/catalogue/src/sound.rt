@@ -1,17 +1,18 @@
 // The calls of the catalogue on tables that are known to be sound. Whoever can prove it of its tables calls these, and pays for no check; the answers
-// are those of the public calls.
+// are those of the public calls. (`SoundTables` is a clause and no type: some calls write the one table, some both and some none, and a struct for each
+// way of lending is no plainer than two slices.)
+// (Casts here are bounded, which the check proves: `try_from` would add a refusal that cannot come, no plainer.)
 ghost use Rattle.std.specs.Prelude.{◌≡◌};
 ghost use Rattle.ground.specs.Calls.{answer, SetsBoth};
-ghost use Rattle.questions.specs.Questions.{is_within, is_containing};
 ghost use Rattle.ground.specs.Tables.{tables};
 ghost use Rattle.tables.specs.Inner.{SoundTables};
 ghost use Rattle.answers.specs.Answers.{reply};
 ghost use Rattle.catalogue.specs.Calls.{inserting, finding, deleting, counting, any_kit, all_kits, almost_kits, writing, writing_card, reading_card};
 ghost use Rattle.catalogue.specs.Calls.{Leaves, Sets, Turns};
 
-use answers::{Answer, refused, reply_of};
-use ground::wide16;
-use pages::{Bookmark, Page, good_bookmark};
+use answers::{Answer, Refusal};
+use pages::{Bookmark, Page, Paged, good_bookmark};
+use questions::Question;
 use shortfalls::MOST_SHORT;
 use tables::check_lines;
 
@@ -21,14 +22,11 @@ pub fn insert(reg: &[u8], nodes: &mut [u16], list: &[u16], tag: u16) -> Answer
     ensures { Leaves (inserting list.now tag) reg.now nodes.old result reg.now nodes.new }
 {
     if tag == 0 {
-        return Answer::NoTag;
+        return Err(Refusal::NoTag);
     }
-    let typed = check_lines(reg, list);
-    if refused(typed) {
-        return typed;
-    }
+    check_lines(reg, list)?;
     if !kits::has_room(list) {
-        return Answer::TooMany;
+        return Err(Refusal::TooMany);
     }
     index::insert(nodes, kits::row_of(list), tag)
 }
@@ -38,12 +36,9 @@ pub fn find(reg: &[u8], nodes: &[u16], list: &[u16]) -> Answer
     requires { SoundTables (tables reg.now nodes.now) }
     ensures { reply result ≡ answer (finding list.now (tables reg.now nodes.now)) }
 {
-    let typed = check_lines(reg, list);
-    if refused(typed) {
-        return typed;
-    }
+    check_lines(reg, list)?;
     if !kits::has_room(list) {
-        return Answer::NotHeld(0);
+        return Err(Refusal::NotHeld(0));
     }
     index::find(nodes, kits::row_of(list))
 }
@@ -53,12 +48,9 @@ pub fn delete(reg: &[u8], nodes: &mut [u16], list: &[u16]) -> Answer
     requires { SoundTables (tables reg.now nodes.old) }
     ensures { Leaves (deleting list.now) reg.now nodes.old result reg.now nodes.new }
 {
-    let typed = check_lines(reg, list);
-    if refused(typed) {
-        return typed;
-    }
+    check_lines(reg, list)?;
     if !kits::has_room(list) {
-        return Answer::NotHeld(0);
+        return Err(Refusal::NotHeld(0));
     }
     index::delete(nodes, kits::row_of(list))
 }
@@ -68,62 +60,29 @@ pub fn count_beginning(reg: &[u8], nodes: &[u16], list: &[u16]) -> Answer
     requires { SoundTables (tables reg.now nodes.now) }
     ensures { reply result ≡ answer (counting list.now (tables reg.now nodes.now)) }
 {
-    let typed = check_lines(reg, list);
-    if refused(typed) {
-        return typed;
-    }
+    check_lines(reg, list)?;
     if !kits::has_room(list) {
-        return Answer::Done(0);
+        return Ok(0);
     }
-    Answer::Done(index::count(nodes, kits::row_of(list)))
+    Ok(index::count(nodes, kits::row_of(list)))
 }
 
-// Any kit within the bin: the tag of the first in listing order, or 0.
-pub fn any_within(reg: &[u8], nodes: &[u16], bin: &[u16]) -> Answer
+// Any kit of which the question holds, within the bin or containing the list: the tag of the first in listing order, or 0.
+pub fn any<Q: Question>(reg: &[u8], nodes: &[u16], list: &[u16]) -> Answer
     requires { SoundTables (tables reg.now nodes.now) }
-    ensures { reply result ≡ answer (any_kit is_within bin.now (tables reg.now nodes.now)) }
+    ensures { reply result ≡ answer (any_kit Q.asks list.now (tables reg.now nodes.now)) }
 {
-    let typed = check_lines(reg, bin);
-    if refused(typed) {
-        return typed;
-    }
-    Answer::Done(wide16(questions::any_within(nodes, bin)))
+    check_lines(reg, list)?;
+    Ok(usize::from(questions::any::<Q>(nodes, list)))
 }
 
-// Any kit containing the list: the tag of the first in listing order, or 0.
-pub fn any_containing(reg: &[u8], nodes: &[u16], list: &[u16]) -> Answer
+// All kits of which it holds: their tags in listing order at the start of the output.
+pub fn all<Q: Question>(reg: &[u8], nodes: &[u16], list: &[u16], out: &mut [u16]) -> Answer
     requires { SoundTables (tables reg.now nodes.now) }
-    ensures { reply result ≡ answer (any_kit is_containing list.now (tables reg.now nodes.now)) }
+    ensures { Sets (all_kits Q.asks list.now (tables reg.now nodes.now)) out.old result out.new }
 {
-    let typed = check_lines(reg, list);
-    if refused(typed) {
-        return typed;
-    }
-    Answer::Done(wide16(questions::any_containing(nodes, list)))
-}
-
-// All kits within the bin: their tags in listing order at the start of the output.
-pub fn all_within(reg: &[u8], nodes: &[u16], bin: &[u16], out: &mut [u16]) -> Answer
-    requires { SoundTables (tables reg.now nodes.now) }
-    ensures { Sets (all_kits is_within bin.now (tables reg.now nodes.now)) out.old result out.new }
-{
-    let typed = check_lines(reg, bin);
-    if refused(typed) {
-        return typed;
-    }
-    questions::all_within(nodes, bin, out)
-}
-
-// All kits containing the list: their tags in listing order at the start of the output.
-pub fn all_containing(reg: &[u8], nodes: &[u16], list: &[u16], out: &mut [u16]) -> Answer
-    requires { SoundTables (tables reg.now nodes.now) }
-    ensures { Sets (all_kits is_containing list.now (tables reg.now nodes.now)) out.old result out.new }
-{
-    let typed = check_lines(reg, list);
-    if refused(typed) {
-        return typed;
-    }
-    questions::all_containing(nodes, list, out)
+    check_lines(reg, list)?;
+    questions::all::<Q>(nodes, list, out)
 }
 
 // All kits that the bin fills but for at most d units: their tags in listing order at the start of the one output, and the shortfall of each at the
@@ -140,58 +99,32 @@ pub fn all_almost(
     ensures { SetsBoth (almost_kits d bin.now (tables reg.now nodes.now)) tags.old shorts.old
         (reply result) tags.new shorts.new }
 {
-    let typed = check_lines(reg, bin);
-    if refused(typed) {
-        return typed;
-    }
+    check_lines(reg, bin)?;
     if MOST_SHORT < d {
-        return Answer::TooFar;
+        return Err(Refusal::TooFar);
     }
     shortfalls::all_almost(nodes, bin, d, tags, shorts)
 }
 
-// The next page of the kits within the bin: the tag of the first kit after the bookmark's row, or 0, and the bookmark at that kit.
-pub fn page_within(reg: &[u8], nodes: &[u16], bin: &[u16], mark: Bookmark) -> Page
+// The next page of the kits of which it holds: the tag of the first kit after the bookmark's row, or 0, and the bookmark at that kit.
+pub fn next_page<Q: Paged>(reg: &[u8], nodes: &[u16], list: &[u16], mark: Bookmark) -> Page
     requires { SoundTables (tables reg.now nodes.now) }
-    ensures { Turns is_within reg.now nodes.now bin.now mark result.answer result.mark }
+    ensures { Turns Q.asks reg.now nodes.now list.now mark result.answer result.mark }
 {
-    let typed = check_lines(reg, bin);
-    if refused(typed) {
+    if let Err(refusal) = check_lines(reg, list) {
         return Page {
-            answer: typed,
-            mark: mark,
+            answer: Err(refusal),
+            mark,
         };
     }
     let parts = register::count_parts(reg) as u16;
     if !good_bookmark(mark, parts) {
         return Page {
-            answer: Answer::BadBookmark,
-            mark: mark,
+            answer: Err(Refusal::BadBookmark),
+            mark,
         };
     }
-    pages::page_within(nodes, bin, mark)
-}
-
-// The next page of the kits containing the list: the tag of the first kit after the bookmark's row, or 0, and the bookmark at that kit.
-pub fn page_containing(reg: &[u8], nodes: &[u16], list: &[u16], mark: Bookmark) -> Page
-    requires { SoundTables (tables reg.now nodes.now) }
-    ensures { Turns is_containing reg.now nodes.now list.now mark result.answer result.mark }
-{
-    let typed = check_lines(reg, list);
-    if refused(typed) {
-        return Page {
-            answer: typed,
-            mark: mark,
-        };
-    }
-    let parts = register::count_parts(reg) as u16;
-    if !good_bookmark(mark, parts) {
-        return Page {
-            answer: Answer::BadBookmark,
-            mark: mark,
-        };
-    }
-    pages::page_containing(nodes, list, mark)
+    pages::next_page::<Q>(nodes, list, mark)
 }
 
 // Writes the sheet at the start of the output: the bytes written.
@@ -207,11 +140,7 @@ pub fn write_card(reg: &[u8], nodes: &[u16], list: &[u16], out: &mut [u8]) -> An
     requires { SoundTables (tables reg.now nodes.now) }
     ensures { Sets (writing_card list.now (tables reg.now nodes.now)) out.old result out.new }
 {
-    let found = find(reg, nodes, list);
-    if refused(found) {
-        return found;
-    }
-    let tag = reply_of(found).value as u16;
+    let tag = find(reg, nodes, list)? as u16;
     card_write::write_card(reg, list, tag, out)
 }
 
@@ -221,11 +150,6 @@ pub fn read_card(reg: &[u8], nodes: &mut [u16], s: &[u8]) -> Answer
     requires { SoundTables (tables reg.now nodes.old) }
     ensures { Leaves (reading_card s.now) reg.now nodes.old result reg.now nodes.new }
 {
-    let read = card_read::read_card(reg, s);
-    let told = read.answer;
-    if refused(told) {
-        return told;
-    }
-    let row = read.row;
-    index::insert(nodes, row, read.tag)
+    let kit = card_read::read_card(reg, s)?;
+    index::insert(nodes, kit.row, kit.tag)
 }

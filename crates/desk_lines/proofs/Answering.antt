@@ -1,31 +1,31 @@
 -- What each kind of line answers: from the promises of the calls and the bytes set down to the desk's definitions.
 use mathlib.Core.Path.{◌≡◌, refl, ap, sym, ◌∙◌}
-use mathlib.Core.Logic.{⊎_elim}
-use mathlib.Core.Bool.{Bool, true, false}
+use mathlib.Core.Bool.{false}
 use mathlib.Core.List.{List, [], ◌∷◌, ◌++◌}
 use Prim.Native.Nat.{ℕ, ◌≤◌}
 use native.Mathlib.Omega.{arith}
 use lib.ListN.{length, get_or, take}
 use lib.Seq.{length-take-le}
-use borrow.Author.Tests.{eq-eqb, ne_eqb, ltb-false}
+use borrow.Author.Tests.{ne_eqb, ltb-false}
 use lib.Dec.{ltb}
 use Rattle.ground.specs.Laid.{laid}
-use Rattle.ground.specs.Calls.{Case, given, Plan, Reply, done, refused, number_of, value_of, is_refused, decide, answer, leaves, memory, Promise, set_down}
-use Rattle.ground.proofs.Calls.{passed_done, refused_says, leaves_done, leaves_refused, done_passes}
+use Rattle.ground.specs.Calls.{Case, given, Plan, Reply, done, refused, number_of, value_of, decide, answer, leaves, memory, Promise, set_down}
+use Rattle.ground.proofs.Calls.{refused_says, refused_leaves, leaves_done, done_passes}
 use Rattle.ground.proofs.Laid.{length_laid}
 use Rattle.register.specs.Calls.{registering}
-use Rattle.questions.specs.Questions.{is_within, is_containing}
+use Rattle.questions.specs.Questions.{is_containing}
 use Rattle.ground.specs.Tables.{Tables, tables}
-use Rattle.catalogue.specs.Calls.{Question, on_register, inserting, finding, deleting, any_kit, all_kits, writing}
-use Rattle.answers.specs.Answers.{reply}
-use Rattle.answers.specs.declared.Answer.{Answer}
-use Rattle.answers.proofs.Answers.{done_or_refused}
+use Rattle.catalogue.specs.Calls.{Question, on_register, finding, any_kit, all_kits, writing}
+use Rattle.answers.specs.Answers.{reply, Answer}
+use Rattle.answers.specs.declared.Refusal.{Refusal}
+use Rattle.std.proofs.Common.{Ok, Err}
 use Rattle.desk_text.specs.Letters as letter
 use Rattle.desk_text.specs.Lines.{fields_from}
 use Rattle.desk_replies.specs.Replies.{reply_line, ReplyStands}
 use Rattle.desk_replies.proofs.Replies.{reply_same}
 use Rattle.desk_lists.specs.Typed.{typed, stopped, looked_up}
 use Rattle.desk_lists.specs.Inner.{typed_as, ReadAs}
+use Rattle.answers.proofs.Answers.{refuses}
 use Rattle.desk_lines.specs.Desk.{called, shown, register_line, call_of, Answers}
 use Rattle.desk_lines.specs.Inner.{set_down_by, printed}
 
@@ -90,11 +90,11 @@ kept_promise : (p : Plan Tables) (T : Tables) (a : Reply) → p.after ≡ T → 
 unfolding memory
 kept_promise p T a e f = record { answers = f; lent = sym (ap (leaves (answer p) T) e ∙ leaves_same (answer p) T) }
 
-finding_keeps : (l : List ℕ) (T : Tables) (a : Reply) → a ≡ answer (finding l T) → Promise (finding l T) T a T
+pub finding_keeps : (l : List ℕ) (T : Tables) (a : Reply) → a ≡ answer (finding l T) → Promise (finding l T) T a T
 unfolding finding
 finding_keeps l T a f = kept_promise _ T a refl f
 
-any_keeps : (question : Question) (l : List ℕ) (T : Tables) (a : Reply) → a ≡ answer (any_kit question l T) → Promise (any_kit question l T) T a T
+pub any_keeps : (question : Question) (l : List ℕ) (T : Tables) (a : Reply) → a ≡ answer (any_kit question l T) → Promise (any_kit question l T) T a T
 unfolding any_kit
 any_keeps question l T a f = kept_promise _ T a refl f
 
@@ -117,81 +117,48 @@ register_put fs R N n a M e q h =
     })
     h
 
--- the call of each letter
-module _ (x t : ℕ) (l : List ℕ) (T : Tables) (a : Reply) where
-  pub call_inserts : (U : Tables) → x ≡ letter.inserts → Promise (inserting l t T) T a U → Promise (call_of x t l T) T a U
-  unfolding call_of
-  call_inserts U e h = rw (eq-eqb x letter.inserts e) h
-
-  module _ (n1 : x ≡ letter.inserts → ⊥) where
-    pub call_finds : x ≡ letter.finds → a ≡ answer (finding l T) → Promise (call_of x t l T) T a T
-    unfolding call_of
-    call_finds e f = rw (ne_eqb x letter.inserts n1, eq-eqb x letter.finds e) (finding_keeps l T a f)
-
-    module _ (n2 : x ≡ letter.finds → ⊥) where
-      pub call_deletes : (U : Tables) → x ≡ letter.deletes → Promise (deleting l T) T a U → Promise (call_of x t l T) T a U
-      unfolding call_of
-      call_deletes U e h = rw (ne_eqb x letter.inserts n1, ne_eqb x letter.finds n2, eq-eqb x letter.deletes e) h
-
-      module _ (n3 : x ≡ letter.deletes → ⊥) where
-        pub call_within : x ≡ letter.any_within → a ≡ answer (any_kit is_within l T) → Promise (call_of x t l T) T a T
-        unfolding call_of
-        call_within e f =
-            rw (ne_eqb x letter.inserts n1, ne_eqb x letter.finds n2, ne_eqb x letter.deletes n3, eq-eqb x letter.any_within e)
-            (any_keeps is_within l T a f)
-
-        pub call_containing : (x ≡ letter.any_within → ⊥) → a ≡ answer (any_kit is_containing l T) → Promise (call_of x t l T) T a T
-        unfolding call_of
-        call_containing n4 f =
-            rw (ne_eqb x letter.inserts n1, ne_eqb x letter.finds n2, ne_eqb x letter.deletes n3, ne_eqb x letter.any_within n4)
-            (any_keeps is_containing l T a f)
+-- the call of S, and of every letter that has no call of its own
+pub call_containing : (x t : ℕ) (l : List ℕ) (T : Tables) (a : Reply) → (x ≡ letter.inserts → ⊥) → (x ≡ letter.finds → ⊥) →
+    (x ≡ letter.deletes → ⊥) → (x ≡ letter.any_within → ⊥) → a ≡ answer (any_kit is_containing l T) → Promise (call_of x t l T) T a T
+unfolding call_of
+call_containing x t l T a n1 n2 n3 n4 f =
+    rw (ne_eqb x letter.inserts n1, ne_eqb x letter.finds n2, ne_eqb x letter.deletes n3, ne_eqb x letter.any_within n4)
+    (any_keeps is_containing l T a f)
 
 -- a list that was read, n words of it, or a lookup that was refused
-module _ (R l : List ℕ) (from : ℕ) (a : Reply) (out : List ℕ) (d : ReadAs R l from a out) (b : Bool) (e : b ≡ is_refused a) where
-  pub read_stopped : b ≡ true → looked_up R (fields_from l from) ≡ stopped (number_of a) (value_of a)
-  read_stopped f = sym d.says ∙ ap (λ (z : Reply). typed_as z out) (refused_says a (sym e ∙ f))
+module _ (R l : List ℕ) (from : ℕ) (a : Answer) (out : List ℕ) (d : ReadAs R l from (reply a) out) where
+  pub read_stopped : (e : Refusal) → a ≡ Err e → looked_up R (fields_from l from) ≡ stopped (number_of (reply a)) (value_of (reply a))
+  read_stopped e q = sym d.says ∙ ap (λ (z : Reply). typed_as z out) (refused_says (reply a) (rw q (refuses e)))
 
-  module _ (f : b ≡ false) (n : ℕ) (v : n ≡ value_of a) where
-    read_done : a ≡ done (value_of a)
-    read_done = passed_done a (sym e ∙ f)
+  module _ (n : ℕ) (q : a ≡ Ok n) where
+    read_done : reply a ≡ done n
+    read_done = ap reply q
 
     pub read_typed : looked_up R (fields_from l from) ≡ typed (take n out)
-    read_typed = sym d.says ∙ ap (λ (z : Reply). typed_as z out) read_done ∙ ap (λ k. typed (take k out)) (sym v)
+    read_typed = sym d.says ∙ ap (λ (z : Answer). typed_as (reply z) out) q
 
     pub read_inside : n ≤ length out
-    read_inside = omega (arith, leaves_done a (value_of a) 0 (value_of a) read_done, d.inside)
-
--- an answer whose number is 0 is done, and every other is refused
-pub zero_done : (a : Answer) → number_of (reply a) ≡ 0 → reply a ≡ done (value_of (reply a))
-zero_done a e = ⊎_elim (λ d. d) (λ r. absurd (omega (arith, r.0))) (done_or_refused a)
-
-other_refused : (a : Answer) → (number_of (reply a) ≡ 0 → ⊥) → reply a ≡ refused (number_of (reply a)) (value_of (reply a))
-other_refused a h = ⊎_elim (λ d. absurd (h (ap number_of d))) (λ r. r.1) (done_or_refused a)
+    unfolding leaves
+    read_inside = rw q at d.inside
 
 module _ (a : Answer) (o : List ℕ) where
   -- refused: nothing behind the value
-  pub printed_refused : {old new : List ℕ} {r : ℕ} (x : ℕ) (print : List ℕ → List ℕ) (n : ℕ) → n ≡ number_of (reply a) → (n ≡ 0 → ⊥) →
+  pub printed_refused : {old new : List ℕ} {r : ℕ} (x : ℕ) (print : List ℕ → List ℕ) (e : Refusal) → a ≡ Err e →
       ReplyStands old (reply_line x (number_of (reply a)) (value_of (reply a)) []) r new → ReplyStands old (printed x print (reply a) o) r new
-  printed_refused x print n e h p =
-      let q = leaves_refused (reply a) (number_of (reply a)) (value_of (reply a)) [] (print (take (value_of (reply a)) o))
-      (other_refused a (λ z. h (e ∙ z))) in
-      reply_same p (ap (reply_line x (number_of (reply a)) (value_of (reply a))) (sym q))
+  printed_refused x print e q p =
+      let k = refused_leaves (reply a) [] (print (take (value_of (reply a)) o)) (rw q (refuses e)) in
+      reply_same p (ap (reply_line x (number_of (reply a)) (value_of (reply a))) (sym k))
 
   -- done: what was set down, printed
-  module _ (n v : ℕ) (e : n ≡ number_of (reply a)) (z : n ≡ 0) (f : v ≡ value_of (reply a)) (h : set_down_by (reply a) ≤ length o) where
-    done_is : reply a ≡ done (value_of (reply a))
-    done_is = zero_done a (sym e ∙ z)
+  module _ (n : ℕ) (q : a ≡ Ok n) (h : set_down_by (reply a) ≤ length o) where
+    pub done_inside : n ≤ length o
+    unfolding leaves
+    done_inside = rw q at h
 
-    pub done_inside : v ≤ length o
-    done_inside = let q = leaves_done (reply a) (value_of (reply a)) 0 (value_of (reply a)) done_is in omega (arith, f)
-
-    pub done_length : length (take v o) ≡ v
-    done_length = length-take-le v o done_inside
+    pub done_length : n ≡ length (take n o)
+    done_length = sym (length-take-le n o done_inside)
 
     pub printed_done : {old new : List ℕ} {r : ℕ} (x : ℕ) (print : List ℕ → List ℕ) →
-        ReplyStands old (reply_line x 0 (length (take v o)) (print (take v o))) r new → ReplyStands old (printed x print (reply a) o) r new
-    printed_done x print p =
-        let q = leaves_done (reply a) (value_of (reply a)) [] (print (take (value_of (reply a)) o)) done_is in
-        let w = done_length in
-        let y : number_of (reply a) ≡ 0 = sym e ∙ z in
-        reply_same p (ap (λ k. reply_line x 0 k (print (take v o))) w ∙ sym (rw (q, y, ← f) refl))
+        ReplyStands old (reply_line x 0 (length (take n o)) (print (take n o))) r new → ReplyStands old (printed x print (reply a) o) r new
+    unfolding leaves
+    printed_done x print p = rw q (reply_same p (ap (λ k. reply_line x 0 k (print (take n o))) (sym done_length)))

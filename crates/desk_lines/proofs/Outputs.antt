@@ -2,6 +2,7 @@
 use mathlib.Core.Path.{◌≡◌, refl, sym, ◌∙◌}
 use mathlib.Core.List.{List, []}
 use Prim.Native.Nat.{ℕ}
+use native.Mathlib.Omega.{arith}
 use borrow.Author.Tests.{eq-eqb, ne_eqb}
 use Rattle.ground.specs.Calls.{Reply, number_of, value_of, memory, Promise}
 use Rattle.questions.specs.Questions.{is_within, is_containing}
@@ -24,11 +25,11 @@ module _ {old new : List ℕ} {r : ℕ} (x t : ℕ) (o : List ℕ) (T : Tables) 
     asked_all_within e q =
         rw (eq-eqb x letter.all_within e) (record { reply = shown_put x tags_text (all_kits is_within l T o) o a m q h; left = refl }, q.lent)
 
-    pub asked_all_containing : (x ≡ letter.all_within → ⊥) → x ≡ letter.all_containing → Promise (all_kits is_containing l T o) o a m →
+    pub asked_all_containing : x ≡ letter.all_containing → Promise (all_kits is_containing l T o) o a m →
         (Answers (asked x t o T l) old r new T) × (m ≡ asked_places x o T l)
     unfolding asked asked_places
-    asked_all_containing n e q =
-        rw (ne_eqb x letter.all_within n, eq-eqb x letter.all_containing e)
+    asked_all_containing e q =
+        rw (ne_eqb x letter.all_within (λ w. absurd (omega (arith, e, w))), eq-eqb x letter.all_containing e)
         (record { reply = shown_put x tags_text (all_kits is_containing l T o) o a m q h; left = refl }, q.lent)
 
   pub asked_call : (U : Tables) → (x ≡ letter.all_within → ⊥) → (x ≡ letter.all_containing → ⊥) → Promise (call_of x t l T) T a U →
@@ -62,22 +63,21 @@ module _ {old new : List ℕ} {r : ℕ} (p : Parsed) (o s : List ℕ) (T : Table
     register_served U i h =
         let q = eq-eqb x letter.registers i in (rw (e, q) h, record { places = rw (e, q) refl; sheet = rw (e, q) refl })
 
-    module _ (n1 : x ≡ letter.registers → ⊥) where
-      pub write_served : (m : List ℕ) → x ≡ letter.writes → ReplyStands old (write_line T s).says r new → m ≡ memory (writing T s) s →
-          (Answers (at_desk p o s T) old r new T) × (Outputs p o s T o m)
-      unfolding at_desk places_after sheet_after write_line
-      write_served m i h f =
-          let q = ne_eqb x letter.registers n1 in
-          let w = eq-eqb x letter.writes i in
-          (rw (e, q, w) (record { reply = h; left = refl }), record { places = rw (e, q, w) refl; sheet = rw (e, q, w) f })
+    pub write_served : (m : List ℕ) → x ≡ letter.writes → ReplyStands old (write_line T s).says r new → m ≡ memory (writing T s) s →
+        (Answers (at_desk p o s T) old r new T) × (Outputs p o s T o m)
+    unfolding at_desk places_after sheet_after write_line
+    write_served m i h f =
+        let q = ne_eqb x letter.registers (λ g. absurd (omega (arith, g, i))) in
+        let w = eq-eqb x letter.writes i in
+        (rw (e, q, w) (record { reply = h; left = refl }), record { places = rw (e, q, w) refl; sheet = rw (e, q, w) f })
 
-      pub ask_served : (m : List ℕ) (U : Tables) → (x ≡ letter.writes → ⊥) →
-          (Answers (ask_line x t fs o T) old r new U) × (m ≡ ask_places x fs o T) → (Answers (at_desk p o s T) old r new U) × (Outputs p o s T m s)
-      unfolding at_desk places_after sheet_after
-      ask_served m U n2 h =
-          let q = ne_eqb x letter.registers n1 in
-          let w = ne_eqb x letter.writes n2 in
-          (rw (e, q, w) h.0, record { places = rw (e, q, w) h.1; sheet = rw (e, q, w) refl })
+    pub ask_served : (m : List ℕ) (U : Tables) → (x ≡ letter.registers → ⊥) → (x ≡ letter.writes → ⊥) →
+        (Answers (ask_line x t fs o T) old r new U) × (m ≡ ask_places x fs o T) → (Answers (at_desk p o s T) old r new U) × (Outputs p o s T m s)
+    unfolding at_desk places_after sheet_after
+    ask_served m U n1 n2 h =
+        let q = ne_eqb x letter.registers n1 in
+        let w = ne_eqb x letter.writes n2 in
+        (rw (e, q, w) h.0, record { places = rw (e, q, w) h.1; sheet = rw (e, q, w) refl })
 
 -- two outcomes that meet the promise of a line are one
 pub answer_line_pinned : (l o s old : List ℕ) (T : Tables) (r r' : ℕ) (new new' : List ℕ) (U U' : Tables) (p p' t t' : List ℕ)

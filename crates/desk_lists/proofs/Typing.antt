@@ -8,7 +8,9 @@ use native.Mathlib.Omega.{arith}
 use lib.ListN.{length, take, drop, set}
 use Rattle.ground.specs.Lists.{allb}
 use Rattle.ground.specs.Laid.{laid}
-use Rattle.ground.specs.Calls.{done, refused, answer}
+use Rattle.ground.specs.Calls.{done, refused, is_refused, answer}
+use Rattle.answers.specs.declared.Refusal.{Refusal}
+use Rattle.answers.specs.Answers.{refusal}
 use Rattle.ground.proofs.Laws.{and_left, and_right, below_or}
 use Rattle.ground.proofs.Laid.{laid_one, laid_cons, take_laid, length_laid}
 use Rattle.register.specs.Calls.{looking_up}

@@ -1,4 +1,5 @@
 // Document 01, "The desk program": the list that a line types, each number looked up, left to right.
+// (Casts here are bounded, which the check proves: `try_from` would add a refusal that cannot come, no plainer.)
 #![tactic(auto)]
 
 ghost use Rattle.std.specs.Prelude.{◌≡◌, [], ◌∷◌, ◌+◌, ◌≤◌, length};
@@ -7,7 +8,7 @@ ghost use Rattle.register.specs.Inner.{Ready};
 ghost use Rattle.answers.specs.Answers.{reply};
 ghost use Rattle.desk_lists.specs.Inner.{Pairs, most_words, ReadAs};
 
-use answers::{Answer, refused, reply_of};
+use answers::Answer;
 use desk_text::{SPACE, end_of, read_amount};
 use register::look_up_in;
 
@@ -21,28 +22,24 @@ fn put_pair(list: &mut [u16], at: usize, place: u16, quantity: u16)
 }
 
 // Reads the pairs of a line from a position on, and sets the list that they type down at the start of the output: how many words it has, or the
-// refusal of the first lookup that is refused.
+// refusal of the first lookup that is refused. The fields are walked by where they end, as in the check of their form (desk_text, `good_pairs`).
 pub fn read_list(line: &[u8], from: usize, reg: &[u8], list: &mut [u16]) -> Answer
-    requires fact_1 { Pairs line.now from }
-    requires fact_2 { Ready reg.now }
-    requires fact_3 { most_words ≤ length list.old }
+    requires pairs { Pairs line.now from }
+    requires ready { Ready reg.now }
+    requires room { most_words ≤ length list.old }
     ensures { ReadAs reg.now line.now from (reply result) list.new }
 {
     let mut n = 0;
     let mut at = from;
     while at <= line.len() {
         let number_end = end_of(line, at, SPACE);
-        let found = look_up_in(reg, &line[at..number_end]);
-        if refused(found) {
-            return found;
-        }
-        let place = reply_of(found).value as u16;
+        let place = look_up_in(reg, &line[at..number_end])? as u16;
         let start = number_end + 1;
         let end = end_of(line, start, SPACE);
-        let quantity = read_amount(&line[start..end]);
-        put_pair(list, n, place, quantity.value);
+        let quantity = read_amount(&line[start..end]).unwrap();
+        put_pair(list, n, place, quantity);
         n += 2;
         at = end + 1;
     }
-    Answer::Done(n)
+    Ok(n)
 }

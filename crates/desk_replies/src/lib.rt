@@ -1,4 +1,5 @@
 // Document 01, "The desk program": how a reply is printed, without any table.
+// (Casts here are bounded, which the check proves: `try_from` would add a refusal that cannot come, no plainer.)
 #![tactic(auto)]
 
 ghost use Rattle.std.specs.Prelude.{◌≡◌, [], ◌∷◌, ◌+◌, ◌*◌, ◌<◌, ◌≤◌, length};
@@ -9,7 +10,6 @@ ghost use Rattle.ground.specs.Laid.{Put};
 ghost use Rattle.desk_replies.specs.Inner.{head_room, tag_room};
 
 use desk_text::{LINE_FEED, SPACE, ZERO_DIGIT};
-use ground::wide16;
 
 const OTHER: u8 = b'?';
 
@@ -29,7 +29,8 @@ fn digit(n: usize) -> u8
     ZERO_DIGIT + n as u8
 }
 
-// Sets a number down in decimal.
+// Sets a number down in decimal. By hand, as `write!` into a cursor over the output is no plainer: each reply would have an error to handle that
+// cannot happen, and the contracts name every byte (`Put .. (decimal n)`).
 pub fn put_decimal(out: &mut [u8], at: usize, n: usize) -> usize
     requires { at + length (decimal n) ≤ length out.old }
     ensures { Put out.old at (decimal n) result out.new }
@@ -47,11 +48,9 @@ pub fn put_tags(out: &mut [u8], from: usize, tags: &[u16]) -> usize
     ensures { Put out.old from (tags_text tags.now) result out.new }
 {
     let mut at = from;
-    let mut i = 0;
-    while i < tags.len() {
+    for tag in tags {
         at = put_byte(out, at, SPACE);
-        at = put_decimal(out, at, wide16(tags[i]));
-        i += 1;
+        at = put_decimal(out, at, usize::from(*tag));
     }
     at
 }
@@ -72,11 +71,9 @@ pub fn put_hex(out: &mut [u8], from: usize, bytes: &[u8]) -> usize
     ensures { Put out.old from (hex_of bytes.now) result out.new }
 {
     let mut at = from;
-    let mut i = 0;
-    while i < bytes.len() {
-        at = put_byte(out, at, hex_digit(bytes[i] / 16));
-        at = put_byte(out, at, hex_digit(bytes[i] % 16));
-        i += 1;
+    for b in bytes {
+        at = put_byte(out, at, hex_digit(*b / 16));
+        at = put_byte(out, at, hex_digit(*b % 16));
     }
     at
 }
@@ -102,7 +99,7 @@ pub fn put_other(out: &mut [u8]) -> usize
     put_byte(out, at, LINE_FEED)
 }
 
-// Sets a whole reply of letter, number and value down.
+// Sets a whole reply of letter, number and value down. (Room is a clause: each reply asks for another length of the output.)
 pub fn put_reply(out: &mut [u8], letter: u8, number: usize, value: usize) -> usize
     requires { head_room + 1 ≤ length out.old }
     ensures { ReplyStands out.old (reply_line letter number value []) result out.new }

@@ -1,5 +1,8 @@
 -- Laws of tags and quantities.
-use mathlib.Core.Path.{◌≡◌, ap, ◌∙◌}
+use mathlib.Core.Path.{◌≡◌, refl, ap, sym, ◌∙◌}
+use Rattle.std.proofs.Common.{Option, Some}
+use Rattle.std.specs.Option.{is_some}
+use Rattle.std.proofs.lemmas.Option.{cond_some}
 use mathlib.Core.Bool.{Bool, true, false, and-false, and-true}
 use mathlib.Core.List.{List, [], ◌∷◌}
 use Prim.Native.Nat.{ℕ, ◌+◌, ◌-◌, ◌*◌, ◌≤◌, ◌<◌}
@@ -11,21 +14,8 @@ use lib.Dec.{leb}
 use borrow.Author.Tests.{le-leb, lt-leb, leb-true}
 use Rattle.ground.specs.Lists.{allb, every}
 use Rattle.ground.proofs.Laws.{and_left}
-use Rattle.desk_text.specs.Amounts.{zero_digit, largest_amount, is_digit, spelt, amount_of, leading_zero, small, good_amount}
 use Rattle.desk_text.specs.Inner.{amount_where, amount_in}
-use Rattle.desk_text.specs.declared.Amount.{Amount}
-
-pub no_amount_where : (b : Bool) (v : ℕ) → b ≡ false → amount_where b v ≡ amount_where false 0
-unfolding amount_where
-no_amount_where b v e = rw e
-
-pub amount_good : (r : Amount) (f : List ℕ) → r ≡ amount_in f → r.good ≡ good_amount f
-unfolding amount_where
-amount_good r f e = ap (λ (a : Amount). a.good) e
-
-pub digit_least : (b : ℕ) → is_digit b ≡ true → zero_digit ≤ b
-unfolding is_digit
-digit_least b e = leb-true zero_digit b (and_left (leb zero_digit b) (leb b 57) e)
+use Rattle.desk_text.specs.Amounts.{zero_digit, largest_amount, is_digit, spelt, amount_of, leading_zero, small, good_amount}
 
 -- the digits walked by position
 module _ (v : ℕ) (f : List ℕ) (i : ℕ) where
@@ -73,6 +63,14 @@ module _ (f : List ℕ) where
     unfolding good_amount every
     amount_small e = rw (le-leb 1 (length f) low, le-leb (length f) 5 high, e) (and-true (small f))
 
-pub amount_value : (r : Amount) (f : List ℕ) → r ≡ amount_in f → good_amount f ≡ true → r.value ≡ amount_of f
-unfolding amount_where
-amount_value r f e g = ap (λ (a : Amount). a.value) e ∙ rw g
+-- an amount as it is read, and the field
+module _ (f : List ℕ) (o : Option ℕ) (e : o ≡ amount_in f) where
+  pub good_if_some : is_some o ≡ good_amount f
+  good_if_some = ap is_some e ∙ go (good_amount f)
+    where
+      go : (b : Bool) → is_some (amount_where b (amount_of f)) ≡ b
+      go true = refl
+      go false = refl
+
+  pub amount_value : (v : ℕ) → o ≡ Some v → (good_amount f ≡ true) × (v ≡ amount_of f)
+  amount_value v q = let h = cond_some (good_amount f) (amount_of f) v (sym e ∙ q) in (h.0, sym h.1)

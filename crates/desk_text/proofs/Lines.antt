@@ -2,19 +2,22 @@
 use mathlib.Core.Path.{◌≡◌, refl, ap, sym, ◌∙◌, subst}
 use mathlib.Core.Bool.{Bool, true, false, ◌&&◌}
 use mathlib.Core.List.{List, [], ◌∷◌}
+use Rattle.std.proofs.Common.{Option, None}
 use Prim.Native.Nat.{ℕ, suc, ◌+◌, ◌-◌, ◌≤◌, ◌<◌}
 use native.Mathlib.Omega.{arith}
 use lib.ListN.{length, get_or, take, drop, length-drop}
 use lib.Seq.{length-take-le}
 use lib.Dec.{eqb}
-use borrow.Author.Tests.{eq-eqb, ne_eqb, le-leb, lt-leb}
+use borrow.Author.Tests.{ne_eqb, le-leb, lt-leb}
 use Rattle.ground.specs.Lists.{allb, anyb, every}
 use Rattle.desk_text.specs.Inner.{EndOf, ParsedAs, line_where}
-use Rattle.desk_text.specs.declared.Parsed as code
+use Rattle.desk_text.specs.declared.Line.{Line}
 use Rattle.desk_text.specs.Amounts.{amount_of, good_amount}
 use Rattle.desk_text.specs.Lines.{space, longest_line, fields_of, fields_from, filled, good_pairs}
 use Rattle.desk_text.specs.Lines.{Parsed, none, line, line_if, exactly, pairs, amount_and_pairs, behind_letter, lettered, parsed}
-use Rattle.desk_text.specs.Letters.{registers, inserts, writes, takes_list}
+use Rattle.desk_text.specs.Letters.{registers, inserts, writes, byte_of, StandsFor}
+use Rattle.desk_text.specs.declared.Letter.{Letter}
+use Rattle.desk_text.specs.declared.Letter.TheVariants as v
 use Rattle.desk_text.proofs.Parted.{from_none, from_step, parted_from_lem}
 
 -- the field at a position that ends at r
@@ -57,10 +60,6 @@ module _ (l : List ℕ) (at r : ℕ) (h : at ≤ length l) (e : EndOf l at space
     pairs_yes q = rw (pairs_step s g f, q)
 
 module _ (l : List ℕ) (at : ℕ) (h : length l < at) where
-  pub filled_end : allb filled (fields_from l at) ≡ true
-  unfolding allb
-  filled_end = rw (from_none space l at h)
-
   pub count_end : length (fields_from l at) ≡ 0
   count_end = rw (from_none space l at h)
 
@@ -68,19 +67,16 @@ module _ (l : List ℕ) (at : ℕ) (h : length l < at) where
   unfolding good_pairs
   pairs_end = rw (from_none space l at h)
 
-pub all_from : (l : List ℕ) → allb filled (fields_from l 0) ≡ allb filled (fields_of l)
-all_from l = ap (allb filled) (parted_from_lem space l)
-
 -- what the code says of a line, by what is said of its fields
-module _ (l : List ℕ) (r : code.Parsed) where
+module _ (l : List ℕ) (r : Option Line) where
   pub parsed_same : {p q : Parsed} → p ≡ q → ParsedAs l q r → ParsedAs l p r
   parsed_same e h = subst (λ z. ParsedAs l z r) (sym e) h
 
-  pub parsed_if : {p : Parsed} (good : Bool) (x t from : ℕ) → p ≡ line_if good x t (fields_from l from) → from ≤ length l + 1 →
+  pub parsed_if : {p : Parsed} (good : Bool) (x : Letter) (t from : ℕ) → p ≡ line_if good (byte_of x) t (fields_from l from) → from ≤ length l + 1 →
       r ≡ line_where good x t from → ParsedAs l p r
-  unfolding line_where line_if
+  unfolding line_if
   parsed_if true x t from q h e =
-      parsed_same q (subst (ParsedAs l (line x t (fields_from l from))) (sym e) (record { is = refl; inside = h }))
+      parsed_same q (subst (ParsedAs l (line (byte_of x) t (fields_from l from))) (sym e) (record { is = refl; inside = h }))
   parsed_if false x t from q h e = parsed_same q (subst (ParsedAs l none) (sym e) refl)
 
 -- an amount, and then pairs
@@ -99,29 +95,50 @@ module _ (l : List ℕ) (x at r : ℕ) (h : at ≤ length l) (e : EndOf l at spa
   amount_then_pairs b t q f v = rw (from_step space l at r h e, q, f, v)
 
 -- what may stand behind each letter
-module _ (x : ℕ) (fs : List (List ℕ)) where
-  pub behind_registers : (n : ℕ) → x ≡ registers → n ≡ length fs → behind_letter x fs ≡ line_if (eqb n 1) x 0 fs
+module _ (fs : List (List ℕ)) where
+  pub behind_registers : (n : ℕ) → n ≡ length fs → behind_letter registers fs ≡ line_if (eqb n 1) registers 0 fs
   unfolding behind_letter exactly
-  behind_registers n e f = rw (eq-eqb x registers e, f)
+  behind_registers n e = rw e
 
-  module _ (p : x ≡ registers → ⊥) where
-    pub behind_inserts : x ≡ inserts → behind_letter x fs ≡ amount_and_pairs x fs
-    unfolding behind_letter
-    behind_inserts e = rw (ne_eqb x registers p, eq-eqb x inserts e)
+  pub behind_inserts : behind_letter inserts fs ≡ amount_and_pairs inserts fs
+  unfolding behind_letter
+  behind_inserts = refl
 
-    module _ (k : x ≡ inserts → ⊥) where
-      pub behind_writes : (n : ℕ) → x ≡ writes → n ≡ length fs → behind_letter x fs ≡ line_if (eqb n 0) x 0 fs
-      unfolding behind_letter exactly
-      behind_writes n e f = rw (ne_eqb x registers p, ne_eqb x inserts k, eq-eqb x writes e, f)
+  pub behind_writes : (n : ℕ) → n ≡ length fs → behind_letter writes fs ≡ line_if (eqb n 0) writes 0 fs
+  unfolding behind_letter exactly
+  behind_writes n e = rw e
 
-      module _ (w : x ≡ writes → ⊥) where
-        pub behind_other : anyb (eqb x) takes_list ≡ false → behind_letter x fs ≡ none
-        unfolding behind_letter
-        behind_other e = rw (ne_eqb x registers p, ne_eqb x inserts k, ne_eqb x writes w, e)
+  -- every other letter takes a list alone
+  module _ (b : Bool) (e : b ≡ good_pairs fs) where
+    pub behind_list : (x : Letter) → (x ≡ v.Registers → ⊥) → (x ≡ v.Inserts → ⊥) → (x ≡ v.Writes → ⊥) →
+        behind_letter (byte_of x) fs ≡ line_if b (byte_of x) 0 fs
+    unfolding behind_letter pairs anyb
+    behind_list v.Registers r i w = absurd (r refl)
+    behind_list v.Inserts r i w = absurd (i refl)
+    behind_list v.Writes r i w = absurd (w refl)
+    behind_list v.Finds r i w = rw e
+    behind_list v.Deletes r i w = rw e
+    behind_list v.AnyWithin r i w = rw e
+    behind_list v.AnyContaining r i w = rw e
+    behind_list v.AllWithin r i w = rw e
+    behind_list v.AllContaining r i w = rw e
 
-        pub behind_list : (b : Bool) → anyb (eqb x) takes_list ≡ true → b ≡ good_pairs fs → behind_letter x fs ≡ line_if b x 0 fs
-        unfolding behind_letter pairs
-        behind_list b e f = rw (ne_eqb x registers p, ne_eqb x inserts k, ne_eqb x writes w, e, f)
+  -- and no letter stands for another byte
+  pub behind_none : (b : ℕ) → StandsFor b None → behind_letter b fs ≡ none
+  unfolding behind_letter anyb
+  behind_none b n =
+      let apart : (x : Letter) → eqb b (byte_of x) ≡ false = λ x. ne_eqb b (byte_of x) (λ e. n x (sym e)) in
+      rw (
+        apart v.Registers,
+        apart v.Inserts,
+        apart v.Writes,
+        apart v.Finds,
+        apart v.Deletes,
+        apart v.AnyWithin,
+        apart v.AnyContaining,
+        apart v.AllWithin,
+        apart v.AllContaining,
+      )
 
 -- the letter's field
 module _ (l : List ℕ) (r : ℕ) (e : EndOf l 0 space r) where

@@ -9,24 +9,22 @@ use lib.ListN.{length, get_or, take, drop, drop_of_length-le, length-drop}
 use lib.Seq.{drop-cons, drop-drop, take_all}
 use lib.Dec.{eqb}
 use borrow.Author.Tests.{eq-eqb, ne_eqb, eqb-true, eqb-false, le-leb, lt-leb}
+use Rattle.std.specs.List.{slice_split, onto_first}
 use Rattle.desk_text.specs.Parted.{in_front, parted, parted_from}
 use Rattle.desk_text.specs.Inner.{up_to, EndOf}
 
--- one step towards the end of a stretch
-module _ (b : ℕ) (l : List ℕ) (i : ℕ) where
-  pub up_to_here : i < length l → get_or l i 0 ≡ b → up_to b (drop i l) ≡ 0
-  unfolding up_to
-  up_to_here h e = rw (drop-cons l i 0 h, eq-eqb _ _ e)
-
-  pub up_to_on : i < length l → (get_or l i 0 ≡ b → ⊥) → up_to b (drop i l) ≡ suc (up_to b (drop (i + 1) l))
-  unfolding up_to
-  up_to_on h e = rw (add-one, drop-cons l i 0 h, ne_eqb _ _ e)
-
-  pub up_to_end : length l ≤ i → up_to b (drop i l) ≡ 0
-  unfolding up_to
-  up_to_end h = rw (drop_of_length-le l h)
-
 -- the stretches: the only one, and the first of more
+in_front_same : (x : ℕ) (ss : List (List ℕ)) → onto_first x ss ≡ in_front x ss
+unfolding in_front
+in_front_same x [] = refl
+in_front_same x (s ∷ ss) = refl
+
+-- the library's parts
+pub parted_split : (b : ℕ) (l : List ℕ) → slice_split (λ x. eqb x b) l ≡ parted b l
+unfolding parted
+parted_split b [] = refl
+parted_split b (x ∷ xs) = rw (parted_split b xs, in_front_same x (parted b xs))
+
 pub parted_last : (b : ℕ) (l : List ℕ) → length l ≤ up_to b l → parted b l ≡ l ∷ []
 unfolding up_to parted in_front
 parted_last b [] h = refl

@@ -1,11 +1,11 @@
 -- Inner: no promise of the house rests on what stands here; inner contracts and proofs speak by it.
 -- Where a stretch ends, an amount as it is read, and a line as it is taken apart.
-use Rattle.std.specs.Prelude.{◌≡◌, cond, Bool, List, [], ◌∷◌, ℕ, suc, ◌+◌, ◌≤◌, length, drop, eqb}
+use Rattle.std.specs.Prelude.{◌≡◌, cond, Bool, Option, Some, None, List, [], ◌∷◌, ℕ, suc, ◌+◌, ◌≤◌, length, drop, eqb}
 use Rattle.desk_text.specs.Amounts.{amount_of, good_amount}
 use Rattle.desk_text.specs.Lines.{Parsed, none, line, fields_from}
-use Rattle.desk_text.specs.declared.Amount.{Amount}
-use Rattle.desk_text.specs.declared.Parsed as code
-use Rattle.desk_text.specs.declared.Parsed.TheVariants.{None, Line}
+use Rattle.desk_text.specs.Letters.{byte_of}
+use Rattle.desk_text.specs.declared.Letter.{Letter}
+use Rattle.desk_text.specs.declared.Line.{Line}
 
 -- how many bytes stand before the first b
 unfoldable pub up_to : ℕ → List ℕ → ℕ
@@ -18,11 +18,11 @@ pub record EndOf (l : List ℕ) (at b r : ℕ) : Type 0 where
   pub low : at ≤ r
   pub high : r ≤ length l
 
--- whether a field is a good amount, with its value; 0 where it is none
-unfoldable pub amount_where : Bool → ℕ → Amount
-amount_where b v = record { good = b; value = cond b v 0 }
+-- an amount, where it is a good one
+abbrev pub amount_where : Bool → ℕ → Option ℕ
+amount_where good v = cond good (Some v) None
 
-abbrev pub amount_in : List ℕ → Amount
+abbrev pub amount_in : List ℕ → Option ℕ
 amount_in f = amount_where (good_amount f) (amount_of f)
 
 -- p is a line with the letter x and the tag t, whose fields stand in l from a position on
@@ -31,10 +31,10 @@ pub record StandsFrom (l : List ℕ) (p : Parsed) (x t from : ℕ) : Type 0 wher
   pub inside : from ≤ length l + 1
 
 -- what the code says of the line l is p
-abbrev pub ParsedAs : List ℕ → Parsed → code.Parsed → Type 0
+abbrev pub ParsedAs : List ℕ → Parsed → Option Line → Type 0
 ParsedAs l p None = p ≡ none
-ParsedAs l p (Line x t from) = StandsFrom l p x t from
+ParsedAs l p (Some x) = StandsFrom l p (byte_of x.letter) x.tag x.from
 
 -- a line where it is a good one
-unfoldable pub line_where : Bool → ℕ → ℕ → ℕ → code.Parsed
-line_where good x t from = cond good (Line x t from) None
+abbrev pub line_where : Bool → Letter → ℕ → ℕ → Option Line
+line_where good x t at = cond good (Some (record { letter = x; tag = t; from = at })) None

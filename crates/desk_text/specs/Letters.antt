@@ -1,5 +1,7 @@
 -- Document 01, "The desk program": the letters.
-use Rattle.std.specs.Prelude.{List, [], ◌∷◌, ℕ}
+use Rattle.std.specs.Prelude.{◌≡◌, List, [], ◌∷◌, ℕ, Option, Some, None}
+use Rattle.desk_text.specs.declared.Letter.{Letter}
+use Rattle.desk_text.specs.declared.Letter.TheVariants as v
 
 -- "P number registers"
 abbrev pub registers : ℕ
@@ -39,3 +41,20 @@ writes = 0x57
 -- the letters that take a list alone
 abbrev pub takes_list : List ℕ
 takes_list = finds ∷ deletes ∷ any_within ∷ any_containing ∷ all_within ∷ all_containing ∷ []
+
+-- the byte of each letter
+abbrev pub byte_of : Letter → ℕ
+byte_of v.Registers = registers
+byte_of v.Inserts = inserts
+byte_of v.Finds = finds
+byte_of v.Deletes = deletes
+byte_of v.AnyWithin = any_within
+byte_of v.AnyContaining = any_containing
+byte_of v.AllWithin = all_within
+byte_of v.AllContaining = all_containing
+byte_of v.Writes = writes
+
+-- the letter whose byte b is; none where it is the byte of no letter
+abbrev pub StandsFor : ℕ → Option Letter → Type 0
+StandsFor b None = (x : Letter) → byte_of x ≡ b → ⊥
+StandsFor b (Some x) = byte_of x ≡ b

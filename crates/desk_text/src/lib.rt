@@ -1,14 +1,13 @@
 // Document 01, "The desk program": what a line is, without any table.
+// (Casts here are bounded, which the check proves: `try_from` would add a refusal that cannot come, no plainer.)
 #![tactic(auto)]
 
-ghost use Rattle.std.specs.Prelude.{◌≡◌, true, false, ◌+◌, ◌<◌, ◌≤◌, length, eqb};
-ghost use Rattle.ground.specs.Lists.{allb, anyb};
-ghost use Rattle.desk_text.specs.Inner.{EndOf, amount_where, amount_in, ParsedAs, line_where};
-ghost use Rattle.desk_text.specs.Amounts.{largest_amount, is_digit, leading_zero, small, amount_of};
-ghost use Rattle.desk_text.specs.Letters.{takes_list};
+ghost use Rattle.std.specs.Prelude.{◌≡◌, true, false, ◌+◌, ◌<◌, ◌≤◌, length};
+ghost use Rattle.ground.specs.Lists.{allb};
+ghost use Rattle.desk_text.specs.Inner.{EndOf, up_to, amount_where, amount_in, ParsedAs, line_where};
+ghost use Rattle.desk_text.specs.Amounts.{leading_zero, small, amount_of};
+ghost use Rattle.desk_text.specs.Letters.{byte_of, StandsFor};
 ghost use Rattle.desk_text.specs.Lines.{fields_of, fields_from, filled, good_pairs, amount_and_pairs, behind_letter, parsed};
-
-use ground::wide8;
 
 pub const LONGEST_LINE: usize = 512;
 
@@ -22,43 +21,73 @@ pub const LARGEST_AMOUNT: usize = 65535;
 
 pub const ZERO_DIGIT: u8 = b'0';
 
-const NINE_DIGIT: u8 = b'9';
-
-pub const REGISTERS: u8 = b'P';
-
-pub const INSERTS: u8 = b'K';
-
-pub const FINDS: u8 = b'F';
-
-pub const DELETES: u8 = b'D';
-
-pub const ANY_WITHIN: u8 = b'B';
-
-pub const ANY_CONTAINING: u8 = b'S';
-
-pub const ALL_WITHIN: u8 = b'b';
-
-pub const ALL_CONTAINING: u8 = b's';
-
-pub const WRITES: u8 = b'W';
-
 // Where the field behind the letter starts.
 const BEHIND_LETTER: usize = 2;
 
-// Whether a field is a good tag or quantity, and its value; 0 where it is none.
-#[derive(Clone, Copy)]
-pub struct Amount {
-    pub good: bool,
-    pub value: u16,
+// What a line asks for.
+#[derive(Clone, Copy, Debug, PartialEq, Eq)]
+pub enum Letter {
+    Registers,
+    Inserts,
+    Finds,
+    Deletes,
+    AnyWithin,
+    AnyContaining,
+    AllWithin,
+    AllContaining,
+    Writes,
 }
 
-// A line taken apart.
+impl Letter {
+    // The letter that stands for a byte, if one does.
+    pub fn of(b: u8) -> Option<Letter>
+        ensures { StandsFor b result }
+    {
+        match b {
+            b'P' => Some(Letter::Registers),
+            b'K' => Some(Letter::Inserts),
+            b'F' => Some(Letter::Finds),
+            b'D' => Some(Letter::Deletes),
+            b'B' => Some(Letter::AnyWithin),
+            b'S' => Some(Letter::AnyContaining),
+            b'b' => Some(Letter::AllWithin),
+            b's' => Some(Letter::AllContaining),
+            b'W' => Some(Letter::Writes),
+            _ => None,
+        }
+    }
+
+    // The byte that is typed for a letter, and printed.
+    pub fn byte(self) -> u8
+        ensures { result ≡ byte_of self }
+    {
+        match self {
+            Letter::Registers => b'P',
+            Letter::Inserts => b'K',
+            Letter::Finds => b'F',
+            Letter::Deletes => b'D',
+            Letter::AnyWithin => b'B',
+            Letter::AnyContaining => b'S',
+            Letter::AllWithin => b'b',
+            Letter::AllContaining => b's',
+            Letter::Writes => b'W',
+        }
+    }
+}
+
+// A good line taken apart: its letter, its tag or 0, and where the fields behind these start.
 #[derive(Clone, Copy)]
-pub enum Parsed {
-    // every other line answers `?`
-    None,
-    // its letter, its tag or 0, and where the fields behind these start
-    Line(u8, u16, usize),
+pub struct Line {
+    pub letter: Letter,
+    pub tag: u16,
+    pub from: usize,
+}
+
+// How many bytes stand before the first b.
+fn bytes_before(s: &[u8], b: u8) -> usize
+    ensures { result ≡ up_to b s.now }
+{
+    s.iter().position(|x| *x == b).unwrap_or(s.len())
 }
 
 // Where the stretch that starts at a position ends: before the next b, or at the end.
@@ -66,29 +95,14 @@ pub fn end_of(s: &[u8], from: usize, b: u8) -> usize
     requires { from ≤ length s.now }
     ensures { EndOf s.now from b result }
 {
-    let mut i = from;
-    while i < s.len() {
-        if s[i] == b {
-            return i;
-        }
-        i += 1;
-    }
-    i
+    from + bytes_before(&s[from..], b)
 }
 
 // Whether no field of a line is empty.
 fn all_filled(line: &[u8]) -> bool
     ensures { result ≡ allb filled (fields_of line.now) }
 {
-    let mut start = 0;
-    while start <= line.len() {
-        let end = end_of(line, start, SPACE);
-        if end == start {
-            return false;
-        }
-        start = end + 1;
-    }
-    true
+    line.split(|b| *b == SPACE).all(|f| !f.is_empty())
 }
 
 // How many fields stand from a position on.
@@ -96,22 +110,10 @@ fn count_fields(line: &[u8], from: usize) -> usize
     requires { from ≤ length line.now + 1 }
     ensures { result ≡ length (fields_from line.now from) }
 {
-    let mut n = 0;
-    let mut at = from;
-    while at <= line.len() {
-        at = end_of(line, at, SPACE) + 1;
-        n += 1;
+    if line.len() < from {
+        return 0;
     }
-    n
-}
-
-fn is_digit(b: u8) -> bool
-    ensures { result ≡ is_digit b }
-{
-    if b < ZERO_DIGIT {
-        return false;
-    }
-    b <= NINE_DIGIT
+    line[from..].split(|b| *b == SPACE).count()
 }
 
 // Whether a field has a leading zero that is not all of it.
@@ -125,62 +127,41 @@ fn leading_zero(f: &[u8]) -> bool
     f[0] == ZERO_DIGIT
 }
 
-fn amount_of(v: usize) -> Amount
-    requires { v ≤ largest_amount }
-    ensures { result ≡ amount_where true v }
-{
-    Amount {
-        good: true,
-        value: v as u16,
-    }
-}
-
-fn no_amount() -> Amount
-    ensures { result ≡ amount_where false 0 }
-{
-    Amount {
-        good: false,
-        value: 0,
-    }
-}
-
 // The value of the digits of a field, where it has nothing else and they spell no more than an amount may be.
-fn read_digits(f: &[u8]) -> Amount
+fn read_digits(f: &[u8]) -> Option<u16>
     ensures { result ≡ amount_where (small f.now) (amount_of f.now) }
 {
     let mut v = 0;
-    let mut i = 0;
-    while i < f.len() {
-        let b = f[i];
-        if !is_digit(b) {
-            return no_amount();
+    for b in f {
+        if !b.is_ascii_digit() {
+            return None;
         }
-        v = v * 10 + (wide8(b) - wide8(ZERO_DIGIT));
-        i += 1;
+        v = v * 10 + usize::from(*b - ZERO_DIGIT);
         if LARGEST_AMOUNT < v {
-            return no_amount();
+            return None;
         }
     }
-    amount_of(v)
+    Some(v as u16)
 }
 
-// Reads a tag or a quantity.
-pub fn read_amount(f: &[u8]) -> Amount
+// Reads a tag or a quantity, if the field is a good one.
+pub fn read_amount(f: &[u8]) -> Option<u16>
     ensures { result ≡ amount_in f.now }
 {
-    if f.len() < 1 {
-        return no_amount();
+    if f.is_empty() {
+        return None;
     }
     if MOST_DIGITS < f.len() {
-        return no_amount();
+        return None;
     }
     if leading_zero(f) {
-        return no_amount();
+        return None;
     }
     read_digits(f)
 }
 
-// Whether the fields from a position on are number and quantity pairs.
+// Whether the fields from a position on are number and quantity pairs. They are walked by where they end: a pair takes two, and a chain of `split`
+// that steps by two and counts them besides is no plainer.
 fn good_pairs(line: &[u8], from: usize) -> bool
     requires { from ≤ length line.now + 1 }
     ensures { result ≡ good_pairs (fields_from line.now from) }
@@ -194,7 +175,7 @@ fn good_pairs(line: &[u8], from: usize) -> bool
         let start = number_end + 1;
         let end = end_of(line, start, SPACE);
         at = end + 1;
-        if !read_amount(&line[start..end]).good {
+        if read_amount(&line[start..end]).is_none() {
             return false;
         }
     }
@@ -202,90 +183,55 @@ fn good_pairs(line: &[u8], from: usize) -> bool
 }
 
 // A line, if what stands there is good.
-fn line_if(good: bool, letter: u8, amount: u16, from: usize) -> Parsed
-    ensures { result ≡ line_where good letter amount from }
+fn line_if(good: bool, letter: Letter, tag: u16, from: usize) -> Option<Line>
+    ensures { result ≡ line_where good letter tag from }
 {
-    if good {
-        return Parsed::Line(letter, amount, from);
-    }
-    Parsed::None
+    good.then_some(Line { letter, tag, from })
 }
 
 // An amount from a position on, and then pairs.
-fn parse_amount(letter: u8, line: &[u8], from: usize) -> Parsed
+fn parse_amount(letter: Letter, line: &[u8], from: usize) -> Option<Line>
     requires { from ≤ length line.now + 1 }
-    ensures { ParsedAs line.now (amount_and_pairs letter (fields_from line.now from)) result }
+    ensures { ParsedAs line.now (amount_and_pairs (byte_of letter) (fields_from line.now from)) result }
 {
     if line.len() < from {
-        return Parsed::None;
+        return None;
     }
     let end = end_of(line, from, SPACE);
-    let amount = read_amount(&line[from..end]);
-    if !amount.good {
-        return Parsed::None;
-    }
+    let tag = read_amount(&line[from..end])?;
     let list = end + 1;
-    line_if(good_pairs(line, list), letter, amount.value, list)
-}
-
-// Whether a letter takes a list alone.
-fn takes_list(letter: u8) -> bool
-    ensures { result ≡ anyb (eqb letter) takes_list }
-{
-    if letter == FINDS {
-        return true;
-    }
-    if letter == DELETES {
-        return true;
-    }
-    if letter == ANY_WITHIN {
-        return true;
-    }
-    if letter == ANY_CONTAINING {
-        return true;
-    }
-    if letter == ALL_WITHIN {
-        return true;
-    }
-    letter == ALL_CONTAINING
+    line_if(good_pairs(line, list), letter, tag, list)
 }
 
 // What stands behind a letter, from a position on.
-fn parse_behind(letter: u8, line: &[u8], from: usize) -> Parsed
+fn parse_behind(letter: Letter, line: &[u8], from: usize) -> Option<Line>
     requires { from ≤ length line.now + 1 }
-    ensures { ParsedAs line.now (behind_letter letter (fields_from line.now from)) result }
+    ensures { ParsedAs line.now (behind_letter (byte_of letter) (fields_from line.now from)) result }
 {
-    if letter == REGISTERS {
-        return line_if(count_fields(line, from) == 1, letter, 0, from);
+    match letter {
+        Letter::Registers => line_if(count_fields(line, from) == 1, letter, 0, from),
+        Letter::Inserts => parse_amount(letter, line, from),
+        Letter::Writes => line_if(count_fields(line, from) == 0, letter, 0, from),
+        _ => line_if(good_pairs(line, from), letter, 0, from),
     }
-    if letter == INSERTS {
-        return parse_amount(letter, line, from);
-    }
-    if letter == WRITES {
-        return line_if(count_fields(line, from) == 0, letter, 0, from);
-    }
-    if !takes_list(letter) {
-        return Parsed::None;
-    }
-    line_if(good_pairs(line, from), letter, 0, from)
 }
 
 // Takes a line apart, once for all that is done with it.
-pub fn parse(line: &[u8]) -> Parsed
+pub fn parse(line: &[u8]) -> Option<Line>
     ensures { ParsedAs line.now (parsed line.now) result }
 {
-    if line.len() < 1 {
-        return Parsed::None;
+    if line.is_empty() {
+        return None;
     }
     if LONGEST_LINE < line.len() {
-        return Parsed::None;
+        return None;
     }
     if !all_filled(line) {
-        return Parsed::None;
+        return None;
     }
     let end = end_of(line, 0, SPACE);
     if end != 1 {
-        return Parsed::None;
+        return None;
     }
-    parse_behind(line[0], line, BEHIND_LETTER)
+    parse_behind(Letter::of(line[0])?, line, BEHIND_LETTER)
 }

@@ -1,6 +1,8 @@
 // The seam for bindings, and the place that notices a weaker contract below: one function for each public call, in a shape that C can call; `face_c`
 // exports them. A contract is the call's full promise, answer and every lent word, and its body is the call: what a call below no longer promises
-// fails to prove here. The number of the answer is returned, its value goes out through `value`; a slice is a pointer and then how many elements it has.
+// fails to prove here. The number of the answer is returned, its value goes out through `value`; a slice is a pointer and then how many elements it
+// has. C links each call by a name of its own, so each kind of question has its own functions here, and what C lends apart stays apart.
+// (Casts here are bounded, which the check proves: `try_from` would add a refusal that cannot come, no plainer.)
 #![tactic(auto)]
 
 ghost use Rattle.std.specs.Prelude.{◌≡◌, cond, ◌+◌, ◌-◌, ◌*◌, ◌<◌, ◌^◌};
@@ -19,10 +21,10 @@ ghost use Rattle.face.specs.Face.{Handed, Crosses, beside_lent, lent_mark, mark_
 ghost use Rattle.face.specs.Face.{SmallReport, report_out, RescueCrosses};
 ghost use Rattle.face.specs.Inner.{PlaceShown};
 
-use answers::{Answer, refused, reply_of};
-use ground::wide16;
+use answers::{Answer, reply_of};
 use kits::{MOST_UNITS, Row};
-use pages::{Bookmark, Page};
+use pages::{Bookmark, Page, Paged};
+use questions::{Containing, Within};
 use register::{SLOT_BYTES, length_at};
 use sheet_read::Salvaged;
 
@@ -77,10 +79,10 @@ fn starts_at(told: Answer, place: u16) -> usize
     requires { PlaceShown (reply told) place }
     ensures { result ≡ leaves (reply told) 0 ((place - 1) * slot_bytes + 1) }
 {
-    if refused(told) {
-        return 0;
+    match told {
+        Ok(_) => (usize::from(place) - 1) * SLOT_BYTES + 1,
+        Err(_) => 0,
     }
-    (wide16(place) - 1) * SLOT_BYTES + 1
 }
 
 // How far into the register that stretch starts.
@@ -146,10 +148,10 @@ pub fn label_stretch<'a>(reg: &'a [u8], makers: &'a [u8], place: u16) -> &'a [u8
 fn is_makers(reg: &[u8], makers: &[u8], place: u16) -> bool
     ensures { result ≡ is_makers place (beside reg.now makers.now) }
 {
-    if refused(makers::label_answer(reg, makers, place)) {
-        return false;
+    match makers::label_answer(reg, makers, place) {
+        Ok(_) => length_at(makers, usize::from(place) - 1) != 0,
+        Err(_) => false,
     }
-    length_at(makers, wide16(place) - 1) != 0
 }
 
 // The label of a place by numbers: how many bytes it is. From which on goes out through `start`, and through `theirs` 1 where they are bytes of the
@@ -204,14 +206,14 @@ pub fn padrisk_count_beginning(reg: &[u8], nodes: &[u16], list: &[u16], value: &
 pub fn padrisk_any_within(reg: &[u8], nodes: &[u16], bin: &[u16], value: &mut u32) -> u8
     ensures { Handed (answer (any_kit is_within bin.now (tables reg.now nodes.now))) result value.new }
 {
-    hand_over(catalogue::any_within(reg, nodes, bin), value)
+    hand_over(catalogue::any::<Within>(reg, nodes, bin), value)
 }
 
 // Any kit containing the list: the tag of the first in listing order, or 0.
 pub fn padrisk_any_containing(reg: &[u8], nodes: &[u16], list: &[u16], value: &mut u32) -> u8
     ensures { Handed (answer (any_kit is_containing list.now (tables reg.now nodes.now))) result value.new }
 {
-    hand_over(catalogue::any_containing(reg, nodes, list), value)
+    hand_over(catalogue::any::<Containing>(reg, nodes, list), value)
 }
 
 // All kits within the bin: their tags in listing order at the start of the output.
@@ -225,7 +227,7 @@ pub fn padrisk_all_within(
     ensures { Crosses (all_kits is_within bin.now (tables reg.now nodes.now)) out.old
         result value.new out.new }
 {
-    hand_over(catalogue::all_within(reg, nodes, bin, out), value)
+    hand_over(catalogue::all::<Within>(reg, nodes, bin, out), value)
 }
 
 // All kits containing the list: their tags in listing order at the start of the output.
@@ -239,7 +241,7 @@ pub fn padrisk_all_containing(
     ensures { Crosses (all_kits is_containing list.now (tables reg.now nodes.now)) out.old
         result value.new out.new }
 {
-    hand_over(catalogue::all_containing(reg, nodes, list, out), value)
+    hand_over(catalogue::all::<Containing>(reg, nodes, list, out), value)
 }
 
 // All kits that the bin fills but for at most d units: their tags in the one output, and the shortfall of each in the other.
@@ -308,6 +310,25 @@ fn hand_page(
     hand_over(answer, value)
 }
 
+// Turns to the next kit of which the question holds, with the bookmark lent taken apart.
+fn turn<Q: Paged>(
+    reg: &[u8],
+    nodes: &[u16],
+    list: &[u16],
+    begun: &mut u8,
+    len: &mut usize,
+    places: &mut [u16; MOST_UNITS],
+    value: &mut u32,
+) -> u8
+    ensures { Crosses (over_lent (turning Q.asks list.now (tables reg.now nodes.now)))
+        (lent_mark begun.old len.old places.old) result value.new
+        (lent_mark begun.new len.new places.new) }
+{
+    let mark = mark_of(*begun, *len, *places);
+    let page = catalogue::next_page::<Q>(reg, nodes, list, mark);
+    hand_page(page, begun, len, places, value)
+}
+
 // Turns to the next kit within the bin: its tag, or 0 when none is left. The bookmark is lent taken apart, and moved on in place.
 pub fn padrisk_turn_within(
     reg: &[u8],
@@ -322,9 +343,7 @@ pub fn padrisk_turn_within(
         (lent_mark begun.old len.old places.old) result value.new
         (lent_mark begun.new len.new places.new) }
 {
-    let mark = mark_of(*begun, *len, *places);
-    let page = catalogue::page_within(reg, nodes, bin, mark);
-    hand_page(page, begun, len, places, value)
+    turn::<Within>(reg, nodes, bin, begun, len, places, value)
 }
 
 // Turns to the next kit containing the list, alike.
@@ -341,9 +360,7 @@ pub fn padrisk_turn_containing(
         (lent_mark begun.old len.old places.old) result value.new
         (lent_mark begun.new len.new places.new) }
 {
-    let mark = mark_of(*begun, *len, *places);
-    let page = catalogue::page_containing(reg, nodes, list, mark);
-    hand_page(page, begun, len, places, value)
+    turn::<Containing>(reg, nodes, list, begun, len, places, value)
 }
 
 // Writes the sheet at the start of the output: the bytes written.

@@ -1,4 +1,5 @@
-// The face of the catalogue as C links it: each export makes one call of `face`, with the same promise, under the name that C calls it by.
+// The face of the catalogue as C links it: each export makes one call of `face`, with the same promise, under the name that C calls it by; so each kind
+// of question has its own exports.
 #![tactic(auto)]
 
 ghost use Rattle.std.specs.Prelude.{◌≡◌, cond, ◌+◌, ◌-◌, ◌*◌, ◌<◌, ◌^◌};

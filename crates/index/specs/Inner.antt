@@ -1,6 +1,6 @@
 -- Inner: no promise of the house rests on what stands here; inner contracts and proofs speak by it.
 -- How far down a table has a row, and find, insert and delete of a row in a sound table.
-use Rattle.std.specs.Prelude.{◌≡◌, List, ℕ, ◌≤◌, length, take, drop}
+use Rattle.std.specs.Prelude.{◌≡◌, List, ℕ, Option, None, Some, ◌≤◌, ◌<◌, length, take, drop}
 use Rattle.ground.specs.Calls.{Plan, plan}
 use Rattle.nodes.specs.Nodes.{depth, row_of}
 use Rattle.nodes.specs.Inner.{Live}
@@ -27,6 +27,11 @@ pub record Going (N r : List ℕ) (p d : ℕ) : Type 0 where
 pub record Deepest (N r : List ℕ) (p : ℕ) : Type 0 where
   pub going : Going N r p (depth N p)
   pub missing : lacks N p (drop (depth N p) r) ≡ length (drop (depth N p) r)
+
+-- a row's tag, None where the row is not held
+abbrev pub TagOf : List ℕ → List ℕ → Option ℕ → Type 0
+TagOf r N None = tag_in r (held N) ≡ 0
+TagOf r N (Some t) = (t ≡ tag_in r (held N)) × (0 < t)
 
 ------------------------------------------------------------------------
 -- "Insert list and tag: nodes newly taken. Find a list, delete a list: its tag", over a row of units

@@ -40,6 +40,7 @@ module _ {N last row M : List ℕ} {n r : ℕ} (t : ℕ) (A : Appendable N n las
   pub last_counted : {K : List ℕ} → K ≡ recount (moved 0 1) M (depth M (r - 1)) (r - 1) → (K ≡ enter N row t) × LastEntered K r row
   unfolding enter
   last_counted {K} k = (
-    k ∙ one_on M (depth M (r - 1)) (r - 1) ∙ ap₂ (recount one_more M) deep (sym end_is) ∙ ap (λ (X : List ℕ). recount one_more X (length row) (node_of X 0 row)) e,
+    k ∙ one_on M (depth M (r - 1)) (r - 1) ∙ ap₂ (recount one_more M) deep (sym end_is)
+        ∙ ap (λ (X : List ℕ). recount one_more X (length row) (node_of X 0 row)) e,
     subst (λ (x : List ℕ). LastEntered x r row) (sym k) (alike_last (recount_alike (moved 0 1) M (depth M (r - 1)) (r - 1)) L),
   )

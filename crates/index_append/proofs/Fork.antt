@@ -6,20 +6,21 @@ use mathlib.Core.List.{List, [], ◌∷◌, ◌++◌, append_assoc, append-nil}
 use Prim.Native.Nat.{ℕ, suc, ◌+◌, ◌-◌, ◌≤◌, ◌<◌}
 use native.Mathlib.Omega.{arith}
 use lib.ListN.{length, get_or, take, drop, length-drop, drop_of_length-le, take-append-drop}
-use lib.Seq.{drop-cons, take-append_seam}
+use lib.Seq.{get_or-drop, drop-cons, take-append_seam}
+use native.Mathlib.Nat.{add-zero}
 use lib.Dec.{ltb, eqb}
 use borrow.Author.Tests.{eq-eqb, ltb-false}
 use Rattle.ground.proofs.Laws.{or_left, le_or}
 use Rattle.kits.specs.Kits.{most_place, before}
 use Rattle.kits.specs.Inner.{GoodRow, agreed}
 use Rattle.kits.proofs.Order.{before_along, agreed_same}
-use Rattle.kits.proofs.Rows.{agreed_left}
+use Rattle.kits.proofs.Rows.{agreed_left, agreed_right}
 use Rattle.nodes.specs.Nodes.{parent, child, next, label, depth, size, row_of}
 use Rattle.nodes.specs.Inner.{Used, Live, Shape}
 use Rattle.nodes.proofs.Rows.{climb, live_inside, row_root, row_step, row_length}
 use Rattle.index_insert.specs.Enter.{enter_below, lacks}
 use Rattle.index_insert.proofs.Entered.{lacks_new, lacks_none}
-use Rattle.index_append.specs.Inner.{Edge, top, below, LastChild, Appendable, Agrees, Appends}
+use Rattle.index_append.specs.Inner.{Edge, top, below, LastEntered, LastChild, Appendable, Agrees, Appends}
 use Rattle.index_append.proofs.Places.{behind_new, enter_down, lacks_down, edge_live}
 
 -- a row that is not before another and does not go on as it does has a greater label
@@ -50,11 +51,10 @@ record Turn (N : List ℕ) (p b : ℕ) (under : List ℕ) : Type 0 where
   tail : List ℕ
   is : under ≡ label N b ∷ tail
 
--- up the path of e as far as p, which is at depth d, k or deeper; b is the node below p
-pub record Climbing (N : List ℕ) (e k p b d : ℕ) : Type 0 where
+-- up the path of e as far as p, which is at depth k or deeper; b is the node below p
+pub record Climbing (N : List ℕ) (e k p b : ℕ) : Type 0 where
   pub edge : Edge N p
-  pub deep : d ≡ depth N p
-  pub high : k ≤ d
+  pub high : k ≤ depth N p
   under : List ℕ
   last_row : row_of N e ≡ row_of N p ++ under
   whole : b ≡ 0 → p ≡ e
@@ -76,10 +76,9 @@ module _ {N row : List ℕ} {n k : ℕ} (R : Agrees N n row k) where
   abbrev S : Shape most_place N
   S = A.enters.shape
 
-  pub climb_start : {d : ℕ} → d ≡ depth N (n - 1) → Climbing N (n - 1) k (n - 1) 0 d
-  climb_start e = record {
+  pub climb_start : Climbing N (n - 1) k (n - 1) 0
+  climb_start = record {
     edge = A.entered.edge;
-    deep = e;
     high =
         omega (
           arith,
@@ -93,25 +92,24 @@ module _ {N row : List ℕ} {n k : ℕ} (R : Agrees N n row k) where
     turn = λ g. absurd (omega arith);
   }
 
-  module _ {p b d : ℕ} (C : Climbing N (n - 1) k p b d) where
+  module _ {p b : ℕ} (C : Climbing N (n - 1) k p b) where
     p_live : Live N p
     p_live = edge_live S C.edge
 
     pub climb_home : p < size N
     climb_home = live_inside (climb S) p p_live
 
-    module _ (h : k < d) where
+    module _ (h : k < depth N p) where
       below_root : p ≡ 0 → ⊥
-      below_root z = omega (arith, C.deep, ap (depth N) z, S.root.no_depth)
+      below_root z = omega (arith, ap (depth N) z, S.root.no_depth)
 
       abbrev up : EdgeStep N p
       up = edge_step C.edge below_root
 
-      pub climb_on : {q : ℕ} → q ≡ parent N p → Climbing N (n - 1) k q p (d - 1)
+      pub climb_on : {q : ℕ} → q ≡ parent N p → Climbing N (n - 1) k q p
       climb_on e = rw e (record {
         edge = up.edge;
-        deep = omega (arith, C.deep, (S.good p up.used).deeper);
-        high = omega arith;
+        high = omega (arith, (S.good p up.used).deeper);
         under = label N p ∷ C.under;
         last_row =
             C.last_row ∙ ap (λ (r : List ℕ). r ++ C.under) (row_step (climb S) p up.used)
@@ -120,9 +118,9 @@ module _ {N row : List ℕ} {n k : ℕ} (R : Agrees N n row k) where
         turn = λ _. record { used = up.used; mine = refl; last = up.last; tail = C.under; is = refl };
       })
 
-    module _ (h : d ≤ k) where
+    module _ (h : depth N p ≤ k) where
       long : length (row_of N p) ≡ k
-      long = row_length (climb S) p p_live ∙ omega (arith, C.deep, C.high)
+      long = row_length (climb S) p p_live ∙ omega (arith, C.high)
 
       fork_is : row_of N p ++ drop k row ≡ row
       fork_is =
@@ -151,6 +149,10 @@ module _ {N row : List ℕ} {n k : ℕ} (R : Agrees N n row k) where
           let c : get_or (drop k row) 0 0 ≡ get_or row k 0 = ap (λ (r : List ℕ). get_or r 0 0) (drop-cons row k 0 i) in
           (i, omega (arith, w.1, c))
 
+      -- the labels left, from the first one on
+      first_left : get_or (drop k row) 0 0 ≡ get_or row k 0
+      first_left = get_or-drop k row 0 0 ∙ ap (λ (j : ℕ). get_or row j 0) (add-zero k)
+
       is_behind : LastChild N p b (get_or row k 0)
       is_behind = record {
         none = λ z. ap (child N) (C.whole z) ∙ A.entered.lone;
@@ -167,7 +169,7 @@ module _ {N row : List ℕ} {n k : ℕ} (R : Agrees N n row k) where
           (lacks_new N p (get_or row k 0) (drop (suc k) row) (behind_new S climb_home is_behind)))
           (le_or (length row) k)
 
-      pub climb_appends : Appends N row p b k n
+      pub climb_appends : Appends N (drop k row) p b n
       climb_appends = record {
         packed = A.entered.packed;
         edge = C.edge;
@@ -180,17 +182,23 @@ module _ {N row : List ℕ} {n k : ℕ} (R : Agrees N n row k) where
           };
           missing = lacking;
         };
-        is = fork_is;
-        behind = is_behind;
-        left = λ g. (greater g).0;
+        behind = rw first_left is_behind;
+        left = λ g. omega (arith, (greater g).0, length-drop k row);
         home = C.whole;
       }
 
       pub climb_enters : {M : List ℕ} (t : ℕ) → M ≡ enter_below N p (drop k row) t → M ≡ enter_below N 0 row t
       climb_enters t m = m ∙ sym (enter_down S t p p_live (drop k row)) ∙ ap (λ (r : List ℕ). enter_below N 0 r t) fork_is
 
+      pub climb_last : {M : List ℕ} {r : ℕ} → LastEntered M r (row_of N p ++ drop k row) → LastEntered M r row
+      climb_last L = rw fork_is at L
+
 -- the row entered last, by its own name
 pub agrees_own : {N last row : List ℕ} {n k : ℕ} → Appendable N n last row → k ≡ agreed last row → Agrees N n row k
 agrees_own {N} {last} {row} {n} A e =
     let i : last ≡ row_of N (n - 1) = sym A.entered.is in
-    record { appendable = subst (λ (l : List ℕ). Appendable N n l row) i A; same = e ∙ ap (λ (l : List ℕ). agreed l row) i }
+    record {
+      appendable = subst (λ (l : List ℕ). Appendable N n l row) i A;
+      same = e ∙ ap (λ (l : List ℕ). agreed l row) i;
+      inside = omega (arith, e, agreed_right last row);
+    }

@@ -3,7 +3,7 @@ use mathlib.Core.Path.{◌≡◌, refl, sym, ap, subst, ◌∙◌}
 use mathlib.Core.Logic.{⊎_elim, ◌≢◌}
 use mathlib.Core.Bool.{false, cond}
 use mathlib.Core.List.{List, [], ◌∷◌, ◌++◌, append_assoc, Memᴰ}
-use Prim.Native.Nat.{ℕ, ◌-◌, ◌≤◌, ◌<◌}
+use Prim.Native.Nat.{ℕ, ◌≤◌, ◌<◌}
 use native.Mathlib.Omega.{arith}
 use lib.Dec.{ltb}
 use Rattle.ground.proofs.Laws.{first_from_is, first_unique}
@@ -38,9 +38,6 @@ module _ {parts : ℕ} {N : List ℕ} {n : ℕ} (S : Shape parts N) (K : Packed 
         passed = λ i l u. packed_passed i u;
         found = λ u. unnamed_free S n K.some u (K.free n (omega arith) u);
       })
-
-pub last_inside : {N : List ℕ} {n : ℕ} → Packed N n → n - 1 < size N
-last_inside K = omega (arith, K.some, K.few)
 
 -- The last of a chain: none has a greater label, and all labels are below what is greater than its
 module _ {N : List ℕ} (B : Siblings N) where

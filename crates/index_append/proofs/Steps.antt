@@ -66,12 +66,17 @@ module _ {N L : List ℕ} {p l f : ℕ} (S : Shape most_place N) (P : Placed mos
       (zero_or (next L f)))
       (subst (Edge L) (sym P.parent_f) (placed_edge E (omega arith)))
 
--- What growing behind all others keeps
-pub record Appending (N₀ us : List ℕ) (p₀ d₀ t : ℕ) (N : List ℕ) (p b d f : ℕ) : Type 0 where
-  pub growing : Growing N₀ us p₀ d₀ t N p f d
-  pub appends : Appends N us p b d f
+-- What growing behind all others keeps, with d labels entered
+pub record Appending (N₀ us : List ℕ) (p₀ t : ℕ) (N : List ℕ) (p b d f : ℕ) : Type 0 where
+  pub growing : Growing N₀ us p₀ t N p f d
+  pub packed : Packed N f
+  pub edge : Edge N p
+  pub is : row_of N p ++ drop d us ≡ row_of N₀ p₀ ++ us
+  pub behind : LastChild N p b (get_or us d 0)
+  pub left : 0 < b → d < length us
+  pub home : b ≡ 0 → p ≡ f - 1
 
-pub append_start : {N us : List ℕ} {p b d n t : ℕ} → Appends N us p b d n → Appending N us p d t N p b d n
+pub append_start : {N us : List ℕ} {p b n t : ℕ} → Appends N us p b n → Appending N us p t N p b 0 n
 append_start A = record {
   growing = record {
     same_length = refl;
@@ -82,21 +87,26 @@ append_start A = record {
     home = A.grows.enters.live;
     row = refl;
   };
-  appends = A;
+  packed = A.packed;
+  edge = A.edge;
+  is = refl;
+  behind = A.behind;
+  left = A.left;
+  home = A.home;
 }
 
-module _ {N₀ us N : List ℕ} {p₀ d₀ t p b d f : ℕ} (A : Appending N₀ us p₀ d₀ t N p b d f) (h : d < length us) where
+module _ {N₀ us N : List ℕ} {p₀ t p b d f : ℕ} (A : Appending N₀ us p₀ t N p b d f) (h : d < length us) where
   abbrev l : ℕ
   l = get_or us d 0
 
   abbrev S : Shape most_place N
-  S = A.appends.grows.enters.shape
+  S = A.growing.grows.enters.shape
 
   inside : p < size N
-  inside = live_inside (climb S) p A.appends.grows.enters.live
+  inside = live_inside (climb S) p A.growing.grows.enters.live
 
   lowest : lowest_free N ≡ f
-  lowest = packed_lowest S A.appends.packed
+  lowest = packed_lowest S A.packed
 
   free : f ≡ first_or (size N) (is_free N) (from f (size N - f))
   unfolding lowest_free nodes_of
@@ -106,46 +116,40 @@ module _ {N₀ us N : List ℕ} {p₀ d₀ t p b d f : ℕ} (A : Appending N₀ 
   cut = rw add-one (drop-cons us d 0 h)
 
   now : Enters most_place N p (l ∷ drop (d + 1) us)
-  now = subst (Enters most_place N p) cut A.appends.grows.enters
+  now = subst (Enters most_place N p) cut A.growing.grows.enters
 
   the_place : Placed most_place N (link N p l f) p l f
   the_place =
       subst (λ (x : ℕ). Placed most_place N (link N p (get_or us d 0) x) p (get_or us d 0) x) lowest
-      (is_placed now (behind_new S inside A.appends.behind))
-
-  pub append_inside : f < size N
-  append_inside = the_place.spliced.inside
+      (is_placed now (behind_new S inside A.behind))
 
   pub append_links : LinksBehind N p b (get_or us d 0) f
   append_links = record {
     links = grow_links A.growing h free;
-    inside = behind_inside S inside A.appends.behind;
-    last = behind_last S inside A.appends.behind;
+    inside = behind_inside S inside A.behind;
+    last = behind_last S inside A.behind;
   }
 
-  pub append_next : {L : List ℕ} → L ≡ link N p (get_or us d 0) f → Appending N₀ us p₀ d₀ t L f 0 (d + 1) (f + 1)
+  pub append_next : {L : List ℕ} → L ≡ link N p (get_or us d 0) f → Appending N₀ us p₀ t L f 0 (d + 1) (f + 1)
   append_next {L} k =
       let P : Placed most_place N L p (get_or us d 0) f = rw k the_place in
-      let G : Growing N₀ us p₀ d₀ t L f (f + 1) (d + 1) = grow_next A.growing h free k in
+      let G : Growing N₀ us p₀ t L f (f + 1) (d + 1) = grow_next A.growing h free k in
       record {
         growing = G;
-        appends = record {
-          packed = placed_packed S P A.appends.packed;
-          edge = placed_new S P A.appends.behind A.appends.edge;
-          grows = G.grows;
-          is =
-              ap (λ (r : List ℕ). r ++ drop (d + 1) us) (new_row S P) ∙ append_assoc (row_of N p) (get_or us d 0 ∷ []) (drop (d + 1) us)
-              ∙ ap (λ (r : List ℕ). row_of N p ++ r) (sym cut) ∙ A.appends.is;
-          behind = record {
-            none = λ _. P.child_f;
-            used = λ g. absurd (omega arith);
-            mine = λ g. absurd (omega arith);
-            last = λ g. absurd (omega arith);
-            less = λ g. absurd (omega arith);
-          };
-          left = λ g. absurd (omega arith);
-          home = λ _. omega arith;
+        packed = placed_packed S P A.packed;
+        edge = placed_new S P A.behind A.edge;
+        is =
+            ap (λ (r : List ℕ). r ++ drop (d + 1) us) (new_row S P) ∙ append_assoc (row_of N p) (get_or us d 0 ∷ []) (drop (d + 1) us)
+            ∙ ap (λ (r : List ℕ). row_of N p ++ r) (sym cut) ∙ A.is;
+        behind = record {
+          none = λ _. P.child_f;
+          used = λ g. absurd (omega arith);
+          mine = λ g. absurd (omega arith);
+          last = λ g. absurd (omega arith);
+          less = λ g. absurd (omega arith);
         };
+        left = λ g. absurd (omega arith);
+        home = λ _. omega arith;
       }
 
 -- Tags and numbers of kits are no part of it
@@ -170,23 +174,26 @@ module _ {N M : List ℕ} (A : Alike N M) where
         is = alike_row A (n - 1) ∙ L.is;
       }
 
-module _ {N₀ us N : List ℕ} {p₀ d₀ t p b d f : ℕ} (A : Appending N₀ us p₀ d₀ t N p b d f) (h : length us ≤ d) where
+module _ {N₀ us N : List ℕ} {p₀ t p b d f : ℕ} (A : Appending N₀ us p₀ t N p b d f) (h : length us ≤ d) where
   none_behind : b ≡ 0
-  none_behind = ⊎_elim (λ (z : b ≡ 0). z) (λ (g : 0 < b). absurd (omega (arith, A.appends.left g))) (zero_or b)
+  none_behind = ⊎_elim (λ (z : b ≡ 0). z) (λ (g : 0 < b). absurd (omega (arith, A.left g))) (zero_or b)
 
   at_end : p ≡ f - 1
-  at_end = A.appends.home none_behind
+  at_end = A.home none_behind
 
-  row_done : row_of N p ≡ us
-  row_done = sym (append-nil (row_of N p)) ∙ ap (λ (r : List ℕ). row_of N p ++ r) (sym (drop_of_length-le us h)) ∙ A.appends.is
+  row_done : row_of N p ≡ row_of N₀ p₀ ++ us
+  row_done = sym (append-nil (row_of N p)) ∙ ap (λ (r : List ℕ). row_of N p ++ r) (sym (drop_of_length-le us h)) ∙ A.is
 
-  untagged_last : LastEntered N f us
+  untagged_last : LastEntered N f (row_of N₀ p₀ ++ us)
   untagged_last = record {
-    packed = A.appends.packed;
-    edge = subst (Edge N) at_end A.appends.edge;
-    lone = subst (λ (x : ℕ). child N x ≡ 0) at_end (A.appends.behind.none none_behind);
-    is = subst (λ (x : ℕ). row_of N x ≡ us) at_end row_done;
+    packed = A.packed;
+    edge = subst (Edge N) at_end A.edge;
+    lone = subst (λ (x : ℕ). child N x ≡ 0) at_end (A.behind.none none_behind);
+    is = subst (λ (x : ℕ). row_of N x ≡ row_of N₀ p₀ ++ us) at_end row_done;
   }
 
-  pub append_end : {M : List ℕ} → M ≡ set N (at p tag_word) t → (M ≡ enter_below N₀ p₀ (drop d₀ us) t) × LastEntered M f us
-  append_end {M} e = (grow_end A.growing h e, subst (λ (x : List ℕ). LastEntered x f us) (sym e) (alike_last (retag_alike N p t) untagged_last))
+  pub append_end : {M : List ℕ} → M ≡ set N (at p tag_word) t → (M ≡ enter_below N₀ p₀ us t) × LastEntered M f (row_of N₀ p₀ ++ us)
+  append_end {M} e = (
+    grow_end A.growing h e,
+    subst (λ (x : List ℕ). LastEntered x f (row_of N₀ p₀ ++ us)) (sym e) (alike_last (retag_alike N p t) untagged_last),
+  )

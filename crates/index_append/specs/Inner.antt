@@ -1,6 +1,6 @@
 -- Inner: no promise of the house rests on what stands here; inner contracts and proofs speak by it.
 -- Kits entered in listing order into a table that was zeroed: what is known of the table between two of them, and where the next one goes.
-use Rattle.std.specs.Prelude.{◌≡◌, false, List, ◌++◌, ℕ, ◌-◌, ◌≤◌, ◌<◌, length, get_or, drop}
+use Rattle.std.specs.Prelude.{◌≡◌, false, List, ℕ, ◌-◌, ◌≤◌, ◌<◌, length, get_or}
 use Rattle.kits.specs.Kits.{most_place, before}
 use Rattle.kits.specs.Inner.{agreed}
 use Rattle.nodes.specs.Nodes.{most_nodes, parent, child, next, label, tally, size, row_of}
@@ -45,13 +45,13 @@ pub record Appendable (N : List ℕ) (n : ℕ) (last row : List ℕ) : Type 0 wh
 pub record Agrees (N : List ℕ) (n : ℕ) (row : List ℕ) (k : ℕ) : Type 0 where
   pub appendable : Appendable N n (row_of N (n - 1)) row
   pub same : k ≡ agreed (row_of N (n - 1)) row
+  pub inside : k ≤ length row
 
--- the row's labels from d on can be entered below p, behind its child b, with the nodes from n on
-pub record Appends (N row : List ℕ) (p b d n : ℕ) : Type 0 where
+-- the labels ls can be entered below p, behind its child b, with the nodes from n on
+pub record Appends (N ls : List ℕ) (p b n : ℕ) : Type 0 where
   pub packed : Packed N n
   pub edge : Edge N p
-  pub grows : Grows N p (drop d row)
-  pub is : row_of N p ++ drop d row ≡ row
-  pub behind : LastChild N p b (get_or row d 0)
-  pub left : 0 < b → d < length row
+  pub grows : Grows N p ls
+  pub behind : LastChild N p b (get_or ls 0 0)
+  pub left : 0 < b → 0 < length ls
   pub home : b ≡ 0 → p ≡ n - 1

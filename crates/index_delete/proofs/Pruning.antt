@@ -1,15 +1,14 @@
 -- What pruning keeps from node to node: going on from where it is leads to the same table.
-use mathlib.Core.Path.{◌≡◌, refl, sym, ap, ◌∙◌}
+use mathlib.Core.Path.{◌≡◌, sym, ap, ◌∙◌}
 use mathlib.Core.List.{List}
 use Prim.Native.Nat.{ℕ, suc, ◌<◌}
 use native.Mathlib.Omega.{arith}
 use native.Mathlib.Numerals.{add-one}
 use lib.ListN.{length, set}
 use Rattle.kits.specs.Kits.{most_place}
-use Rattle.nodes.specs.Nodes.{at, tag_word, parent, child, depth, tag, size}
-use Rattle.nodes.proofs.Rows.{climb, live_inside}
+use Rattle.nodes.specs.Nodes.{at, tag_word, parent, child, depth, tag}
 use Rattle.index_links.specs.Links.{unlink, one_less, recount}
-use Rattle.index_links.specs.Inner.{Unlinks, CanMove, moved}
+use Rattle.index_links.specs.Inner.{CanMove, moved}
 use Rattle.index_links.proofs.Alike.{alike_then, alike_live, alike_depth}
 use Rattle.index_links.proofs.Retag.{retag_alike, retag_shape}
 use Rattle.index_links.proofs.Recount.{recount_alike, recount_shape, one_off}
@@ -22,13 +21,7 @@ pub record Pruning (N₀ : List ℕ) (i₀ : ℕ) (N : List ℕ) (i : ℕ) : Typ
   pub prunes : Prunes most_place N i
   pub same : prune N (depth N i) i ≡ prune N₀ (depth N₀ i₀) i₀
 
-pub prune_start : {N : List ℕ} {i : ℕ} → Prunes most_place N i → Pruning N i N i
-prune_start P = record { same_length = refl; prunes = P; same = refl }
-
 module _ {N₀ N : List ℕ} {i₀ i : ℕ} (P : Pruning N₀ i₀ N i) where
-  pub prune_inside : i < size N
-  prune_inside = live_inside (climb P.prunes.shape) i P.prunes.live
-
   pub prune_end : i ≡ 0 → N ≡ prune N₀ (depth N₀ i₀) i₀
   prune_end e = sym (prune_root N i) ∙ ap (λ (k : ℕ). prune N k i) (sym (ap (depth N) e ∙ P.prunes.shape.root.no_depth)) ∙ P.same
 
@@ -38,9 +31,6 @@ module _ {N₀ N : List ℕ} {i₀ i : ℕ} (P : Pruning N₀ i₀ N i) where
 
     deep : depth N i ≡ suc (depth N (parent N i))
     deep = rw (← add-one (depth N (parent N i))) (P.prunes.shape.good i (P.prunes.live pos)).deeper
-
-    pub prune_unlinks : Unlinks N i
-    prune_unlinks = record { shape = P.prunes.shape; used = P.prunes.live pos }
 
     pub prune_at_tag : {t : ℕ} → t ≡ tag N i → (t ≡ 0 → ⊥) → N ≡ prune N₀ (depth N₀ i₀) i₀
     prune_at_tag e h = sym (ap (λ (k : ℕ). prune N k i) deep ∙ prune_tag N (depth N (parent N i)) i (λ z. h (e ∙ z))) ∙ P.same
@@ -91,6 +81,3 @@ counted_asked K e = rw e (counted_prunes (record { shape = K.shape; live = K.liv
 
 pub cleared_asked : {N L : List ℕ} {i : ℕ} → Prunes most_place N i → L ≡ set N (at i tag_word) 0 → Prunes most_place L i
 cleared_asked P e = rw e (cleared_prunes P)
-
-pub prunes_inside : {N : List ℕ} {i : ℕ} → Prunes most_place N i → i < size N
-prunes_inside {i = i} P = live_inside (climb P.shape) i P.live

@@ -26,16 +26,16 @@ use Rattle.index_insert.proofs.Free.{first_skip, used_not_free, free_alike}
 use Rattle.index_insert.proofs.Entered.{enter_new, first_lacking, is_lowest, is_placed, new_shape, new_enters, new_lacks, taken_row}
 use Rattle.index_insert.proofs.Ends.{node_of_row}
 
-pub record Growing (N₀ us : List ℕ) (p₀ d₀ t : ℕ) (N : List ℕ) (p a d : ℕ) : Type 0 where
+pub record Growing (N₀ us : List ℕ) (p₀ t : ℕ) (N : List ℕ) (p a d : ℕ) : Type 0 where
   pub same_length : length N ≡ length N₀
   pub grows : Grows N p (drop d us)
-  pub same : enter_below N p (drop d us) t ≡ enter_below N₀ p₀ (drop d₀ us) t
+  pub same : enter_below N p (drop d us) t ≡ enter_below N₀ p₀ us t
   pub start : a ≤ size N
   pub passed : (i : ℕ) → i < a → is_free N i ≡ false
   pub home : Live N p₀
-  pub row : row_of N p ++ drop d us ≡ row_of N p₀ ++ drop d₀ us
+  pub row : row_of N p ++ drop d us ≡ row_of N p₀ ++ us
 
-pub grow_start : {N us : List ℕ} {p d t f : ℕ} → Grows N p (drop d us) → f ≡ lowest_free N → Growing N us p d t N p f d
+pub grow_start : {N us : List ℕ} {p t f : ℕ} → Grows N p us → f ≡ lowest_free N → Growing N us p t N p f 0
 unfolding lowest_free nodes_of
 grow_start {N = N} G e =
     let F = first_from_is (is_free N) 0 (size N) (size N) (omega arith) in
@@ -49,7 +49,7 @@ grow_start {N = N} G e =
       row = refl;
     })
 
-module _ {N₀ us N : List ℕ} {p₀ d₀ t p a d f : ℕ} (G : Growing N₀ us p₀ d₀ t N p a d) (h : d < length us)
+module _ {N₀ us N : List ℕ} {p₀ t p a d f : ℕ} (G : Growing N₀ us p₀ t N p a d) (h : d < length us)
     (e : f ≡ first_or (size N) (is_free N) (from a (size N - a))) where
   abbrev l : ℕ
   l = get_or us d 0
@@ -77,7 +77,7 @@ module _ {N₀ us N : List ℕ} {p₀ d₀ t p a d f : ℕ} (G : Growing N₀ us
     deep = (is_placed now.enters new).room.deep;
   }
 
-  pub grow_next : {L : List ℕ} → L ≡ link N p (get_or us d 0) f → Growing N₀ us p₀ d₀ t L f (f + 1) (d + 1)
+  pub grow_next : {L : List ℕ} → L ≡ link N p (get_or us d 0) f → Growing N₀ us p₀ t L f (f + 1) (d + 1)
   grow_next {L} k =
       let E : Enters most_place N p (l ∷ drop (d + 1) us) = now.enters in
       let P : Placed most_place N (link N p l (lowest_free N)) p l (lowest_free N) = is_placed E new in
@@ -95,29 +95,26 @@ module _ {N₀ us N : List ℕ} {p₀ d₀ t p a d f : ℕ} (G : Growing N₀ us
             (P.spliced.labels i q)) ∙ (is_lowest E new).below i (omega arith))
             (same_or i (lowest_free N));
         home = live_to P.spliced p₀ G.home;
-        row = taken_row E new ∙ ap (λ (x : List ℕ). row_of N p ++ x) (sym cut) ∙ G.row ∙ ap (λ (x : List ℕ). x ++ drop d₀ us)
+        row = taken_row E new ∙ ap (λ (x : List ℕ). row_of N p ++ x) (sym cut) ∙ G.row ∙ ap (λ (x : List ℕ). x ++ us)
             (sym (rows_same P.spliced (climb E.shape) p₀ G.home));
       })
 
 -- the last label is entered: the tag is set at the row's end
-module _ {N₀ us N M : List ℕ} {p₀ d₀ t p a d : ℕ} (G : Growing N₀ us p₀ d₀ t N p a d) (h : length us ≤ d) (e : M ≡ set N (at p tag_word) t) where
-  pub grow_end : M ≡ enter_below N₀ p₀ (drop d₀ us) t
+module _ {N₀ us N M : List ℕ} {p₀ t p a d : ℕ} (G : Growing N₀ us p₀ t N p a d) (h : length us ≤ d) (e : M ≡ set N (at p tag_word) t) where
+  pub grow_end : M ≡ enter_below N₀ p₀ us t
   unfolding enter_below
   grow_end = e ∙ ap (λ (x : List ℕ). enter_below N p x t) (sym (drop_of_length-le us h)) ∙ G.same
 
   abbrev K : List ℕ
   K = set N (at p tag_word) t
 
-  whole : row_of N p ≡ row_of N p₀ ++ drop d₀ us
+  whole : row_of N p ≡ row_of N p₀ ++ us
   whole = sym (append-nil (row_of N p)) ∙ ap (λ (x : List ℕ). row_of N p ++ x) (sym (drop_of_length-le us h)) ∙ G.row
 
-  pub grow_node : p ≡ node_of M p₀ (drop d₀ us)
+  pub grow_node : p ≡ node_of M p₀ us
   grow_node =
       let E : Enters most_place N p (drop d us) = G.grows.enters in
       let S : Shape most_place K = retag_shape N p t E.shape E.live in
       let A : Alike N K = retag_alike N p t in
-      let w : row_of K p ≡ row_of K p₀ ++ drop d₀ us = alike_row A p ∙ whole ∙ ap (λ (x : List ℕ). x ++ drop d₀ us) (sym (alike_row A p₀)) in
-      sym (ap (λ (X : List ℕ). node_of X p₀ (drop d₀ us)) e ∙ node_of_row S (drop d₀ us) p₀ p (alike_live A p₀ G.home) (alike_live A p E.live) w)
-
-pub grow_home : {N₀ us N : List ℕ} {p₀ d₀ t p a d : ℕ} → Growing N₀ us p₀ d₀ t N p a d → p < size N
-grow_home {p = p} G = live_inside (climb G.grows.enters.shape) p G.grows.enters.live
+      let w : row_of K p ≡ row_of K p₀ ++ us = alike_row A p ∙ whole ∙ ap (λ (x : List ℕ). x ++ us) (sym (alike_row A p₀)) in
+      sym (ap (λ (X : List ℕ). node_of X p₀ us) e ∙ node_of_row S us p₀ p (alike_live A p₀ G.home) (alike_live A p E.live) w)

@@ -1,21 +1,20 @@
 -- A look over the table, from the last node down: what it has told so far is told of the nodes from there on.
 use mathlib.Core.Path.{◌≡◌, refl, sym, ap, subst, ◌∙◌}
-use mathlib.Core.Bool.{Bool, true, false}
+use mathlib.Core.Bool.{true, false}
 use mathlib.Core.List.{List}
 use Prim.Native.Nat.{ℕ, ◌+◌, ◌-◌, ◌≤◌, ◌<◌}
 use native.Mathlib.Omega.{arith}
 use lib.ListN.{length}
-use lib.Dec.{eqb}
 use Rattle.ground.specs.Lists.{anyb, keep, from, first_or}
 use Rattle.ground.proofs.Laws.{first_from_here, first_from_on, first_from_end}
 use Rattle.nodes.specs.Nodes.{label, tag, size, nodes_of, is_free}
 use Rattle.nodes.specs.Inner.{Shape, bears, tag_borne}
-use Rattle.nodes.proofs.Lists.{never, any_from_yes, any_from_no, any_from_end, count_from_yes, count_from_no, count_from_end}
+use Rattle.nodes.proofs.Lists.{any_from_yes, any_from_no, any_from_end, count_from_yes, count_from_no, count_from_end}
 use Rattle.nodes.proofs.Fields.{root_not_free, bears_yes, bears_no, from_root, borne_is, free_are}
 use Rattle.nodes.proofs.Sorted.{found_anyb}
 use Rattle.nodes.proofs.Decided.{node_in}
 use Rattle.index_insert.specs.Enter.{lowest_free}
-use Rattle.index_insert.specs.Inner.{Surveyed}
+use Rattle.index_insert.specs.Inner.{HasFree}
 use Rattle.index_insert.proofs.Free.{used_not_free, unnamed_free}
 
 -- the nodes from i on have been looked at, and none of them bears the tag
@@ -46,13 +45,9 @@ module _ {parts : ℕ} {N : List ℕ} {t n i free lowest j : ℕ} (S : Shape par
     told : Surveying N t n (j + 1) free lowest
     told = let q : i ≡ j + 1 = omega arith in subst (λ (x : ℕ). Surveying N t n x free lowest) q s
 
-    pub survey_borne : tag N j ≡ t → Surveyed N t (record { borne = true; free = free; lowest = lowest })
+    pub survey_borne : tag N j ≡ t → tag_borne N t ≡ true
     unfolding tag_borne
-    survey_borne b = record {
-      tells_borne = sym (found_anyb (bears N t) (nodes_of N) j (node_in N j inside) (bears_yes N t j b));
-      tells_free = λ z. absurd (never z);
-      tells_lowest = λ z. absurd (never z);
-    }
+    survey_borne b = found_anyb (bears N t) (nodes_of N) j (node_in N j inside) (bears_yes N t j b)
 
     module _ (b : tag N j ≡ t → ⊥) where
       still_unborne : anyb (bears N t) (from j (size N - j)) ≡ false
@@ -87,18 +82,20 @@ module _ {parts : ℕ} {N : List ℕ} {t n i free lowest : ℕ} (S : Shape parts
   all_told : Surveying N t n 1 free lowest
   all_told = let q : i ≡ 1 = omega (arith, s.above_root) in subst (λ (x : ℕ). Surveying N t n x free lowest) q s
 
-  root_tells : (b : Bool) → bears N t 0 ≡ b → b ≡ tag_borne N t
-  root_tells true e = sym (any_from_yes (bears N t) (size N) 0 S.sized.some_node e) ∙ borne_is N t (size N) refl
-  root_tells false e =
-      sym (any_from_no (bears N t) (size N) 0 S.sized.some_node e ∙ all_told.unborne) ∙ borne_is N t (size N) refl
+  pub root_borne : tag N 0 ≡ t → tag_borne N t ≡ true
+  root_borne e =
+      sym (borne_is N t (size N) refl) ∙ any_from_yes (bears N t) (size N) 0 S.sized.some_node (bears_yes N t 0 e)
 
-  pub survey_end : {g : ℕ} → g ≡ tag N 0 → Surveyed N t (record { borne = eqb g t; free = free; lowest = lowest })
-  unfolding lowest_free bears
-  survey_end {g} e = record {
-    tells_borne = root_tells (eqb g t) (ap (λ (x : ℕ). eqb x t) (sym e));
-    tells_free = λ _. all_told.counted ∙ sym
+  pub root_unborne : (tag N 0 ≡ t → ⊥) → tag_borne N t ≡ false
+  root_unborne e =
+      sym (borne_is N t (size N) refl) ∙ any_from_no (bears N t) (size N) 0 S.sized.some_node (bears_no N t 0 e) ∙ all_told.unborne
+
+  pub survey_free_nodes : HasFree N (record { count = free; lowest = lowest })
+  unfolding lowest_free
+  survey_free_nodes = record {
+    counted = all_told.counted ∙ sym
         (count_from_no (is_free N) (size N) 0 S.sized.some_node (root_not_free N 0 refl)) ∙ ap length (free_are N (size N) refl);
-    tells_lowest = λ _. all_told.first ∙ sym
+    is_lowest = all_told.first ∙ sym
         (first_from_on (size N) 0 S.sized.some_node (size N) (is_free N) (root_not_free N 0 refl)) ∙ ap
         (first_or (size N) (is_free N)) (from_root N (size N) refl);
   }

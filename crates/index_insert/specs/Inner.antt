@@ -1,18 +1,22 @@
 -- Inner: no promise of the house rests on what stands here; inner contracts and proofs speak by it.
 -- What a look over a table tells, and what is asked of a table and a row that is to be entered below a node.
-use Rattle.std.specs.Prelude.{◌≡◌, false, List, ◌++◌, ℕ, ◌≤◌, length}
+use Rattle.std.specs.Prelude.{◌≡◌, true, false, Option, None, Some, List, ◌++◌, ℕ, ◌≤◌, length}
 use Rattle.kits.specs.Kits.{most_place}
 use Rattle.kits.specs.Inner.{GoodRow}
 use Rattle.nodes.specs.Nodes.{free_nodes, row_of}
 use Rattle.nodes.specs.Inner.{Live, Shape, tag_borne}
 use Rattle.index_insert.specs.Enter.{lowest_free, lacks}
-use Rattle.index_insert.specs.declared.Survey.{Survey}
+use Rattle.index_insert.specs.declared.FreeNodes.{FreeNodes}
 
--- what a look over the table for the tag t tells: where a node bears it, nothing of the free ones
-pub record Surveyed (N : List ℕ) (t : ℕ) (s : Survey) : Type 0 where
-  pub tells_borne : s.borne ≡ tag_borne N t
-  pub tells_free : s.borne ≡ false → s.free ≡ length (free_nodes N)
-  pub tells_lowest : s.borne ≡ false → s.lowest ≡ lowest_free N
+-- what a look over the table tells of its free nodes
+pub record HasFree (N : List ℕ) (f : FreeNodes) : Type 0 where
+  pub counted : f.count ≡ length (free_nodes N)
+  pub is_lowest : f.lowest ≡ lowest_free N
+
+-- a look over the table for the tag t: None where a node bears it; where none does, what there is of free ones
+abbrev pub Surveyed : List ℕ → ℕ → Option FreeNodes → Type 0
+Surveyed N t None = tag_borne N t ≡ true
+Surveyed N t (Some f) = (tag_borne N t ≡ false) × HasFree N f
 
 -- the labels ls can be entered below node p
 pub record Enters (parts : ℕ) (N : List ℕ) (p : ℕ) (ls : List ℕ) : Type 0 where

@@ -1,15 +1,14 @@
 -- What counting a kit keeps from node to node: going on from where it is leads to the same table, and each number still to change can.
-use mathlib.Core.Path.{◌≡◌, refl, sym, ap, subst, ◌∙◌}
+use mathlib.Core.Path.{◌≡◌, sym, ap, subst, ◌∙◌}
 use mathlib.Core.Bool.{true}
 use mathlib.Core.List.{List}
-use Prim.Native.Nat.{ℕ, suc, ◌≤◌, ◌<◌}
+use Prim.Native.Nat.{ℕ, suc, ◌≤◌}
 use native.Mathlib.Omega.{arith}
 use native.Mathlib.Numerals.{add-one}
 use lib.ListN.{length, set}
 use Rattle.kits.specs.Kits.{most_place}
-use Rattle.nodes.specs.Nodes.{most_nodes, at, tally_word, parent, depth, tally, size, is_under}
+use Rattle.nodes.specs.Nodes.{most_nodes, at, tally_word, parent, depth, tally, is_under}
 use Rattle.nodes.specs.Inner.{Used, Shape}
-use Rattle.nodes.proofs.Rows.{climb, live_inside}
 use Rattle.index_links.specs.Links.{recount}
 use Rattle.index_links.specs.Inner.{CanMove, moved}
 use Rattle.index_links.proofs.Alike.{Alike, alike_depth, alike_live, alike_under}
@@ -20,21 +19,12 @@ pub record Counting (off on : ℕ) (N₀ : List ℕ) (i₀ : ℕ) (N : List ℕ)
   pub counts : CanMove N i off on
   pub same : recount (moved off on) N (depth N i) i ≡ recount (moved off on) N₀ (depth N₀ i₀) i₀
 
-pub counting_start : {N : List ℕ} {i off on : ℕ} → CanMove N i off on → Counting off on N i N i
-counting_start C = record { same_length = refl; counts = C; same = refl }
-
 module _ {off on : ℕ} {N₀ N : List ℕ} {i₀ i : ℕ} (C : Counting off on N₀ i₀ N i) where
   abbrev f : ℕ → ℕ
   f = moved off on
 
   abbrev S : Shape most_place N
   S = C.counts.shape
-
-  pub counting_inside : i < size N
-  counting_inside = live_inside (climb S) i C.counts.live
-
-  pub counting_root : 0 < size N
-  counting_root = S.sized.some_node
 
   pub counting_able : (off ≤ tally N i) × (tally N i ≤ most_nodes)
   counting_able = C.counts.able i (under_itself S i)
@@ -63,9 +53,6 @@ module _ {off on : ℕ} {N₀ N : List ℕ} {i₀ i : ℕ} (C : Counting off on 
 
     deep : depth N i ≡ suc (depth N (parent N i))
     deep = (S.good i used).deeper ∙ add-one (depth N (parent N i))
-
-    pub counting_less : depth L q < depth N i
-    counting_less = rw (qe, is) (omega (arith, alike_depth A (parent N i), deep))
 
     still_able : (j : ℕ) → is_under K j (parent N i) ≡ true → (off ≤ tally K j) × (tally K j ≤ most_nodes)
     still_able j h =

@@ -8,13 +8,13 @@ use lib.ListN.{length}
 use borrow.Author.Tests.{eq-eqb, ne_eqb}
 use Rattle.kits.specs.Kits.{most_place}
 use Rattle.ground.specs.Lists.{first_or}
-use Rattle.nodes.specs.Nodes.{at, child_word, next_word, parent, child, next, label, size, children}
+use Rattle.nodes.specs.Nodes.{at, child_word, next_word, child, next, label, size, children}
 use Rattle.nodes.specs.Inner.{Live, Shape}
 use Rattle.nodes.proofs.Lists.{zero_or}
 use Rattle.nodes.proofs.Rows.{climb, live_inside}
 use Rattle.nodes.proofs.Chain.{siblings, left, left_less}
 use Rattle.index_links.specs.Links.{has_label, child_with, last_below, link_to}
-use Rattle.index_links.specs.Inner.{Chained, Reads, LinksBehind, Unlinks, word_behind}
+use Rattle.index_links.specs.Inner.{Chained, Reads, LinksBehind, word_behind}
 use Rattle.index_links.proofs.Chains.{Step, chained_step, chained_end, chained_above, the_children, child_lives}
 use Rattle.index_links.proofs.Chains.{with_here, with_on, with_none, below_on, below_none}
 
@@ -134,8 +134,3 @@ link_word_inside {N} {p} {b} K = word_inside N p b K.links.reads.inside K.inside
 pub word_is_link : (N : List ℕ) (p l b : ℕ) → b ≡ last_below N l 0 (children N p) → word_behind p b ≡ link_to N p l
 unfolding link_to word_behind
 word_is_link N p l b e = rw e
-
--- the chain that a node is taken from
-pub parent_reads : {N : List ℕ} {i q : ℕ} → Unlinks N i → q ≡ parent N i → Reads N q
-parent_reads {N} {i} U e =
-    rw e (record { shape = U.shape; inside = live_inside (climb U.shape) (parent N i) (U.shape.good i U.used).above })

@@ -2,17 +2,26 @@
 use mathlib.Core.Path.{◌≡◌, refl, sym, ap, ◌∙◌}
 use mathlib.Core.Logic.{◌⊎◌, inl, inr, ⊎_elim, ◌≢◌}
 use mathlib.Core.List.{List, [], ◌∷◌, ◌++◌}
-use Prim.Native.Nat.{ℕ, ◌+◌, ◌-◌, ◌≤◌, ◌<◌}
+use Prim.Native.Nat.{ℕ, ◌+◌, ◌-◌, ◌*◌, ◌≤◌, ◌<◌}
 use native.Mathlib.Omega.{arith}
 use lib.ListN.{length, get_or, set, take, drop, replicate, length-set, length-replicate, get_or-replicate, get_or-append}
-use lib.Seq.{get_or-append-add, get_or-take, get_or-drop, get_or-set_same, get_or-set_other, length-take-le}
+use lib.Seq.{drop-drop, get_or-append-add, get_or-take, get_or-drop, get_or-set_same, get_or-set_other, length-take-le}
+use borrow.Rule.Slice.PartMut.{put_mid}
 use Rattle.ground.specs.Laid.{laid}
-use Rattle.ground.proofs.Laid.{laid_one, laid_set, laid_is, length_laid}
+use Rattle.ground.proofs.Laid.{laid_is, laid_one, laid_set, length_laid}
 use Rattle.ground.proofs.Laws.{le_or}
 use Rattle.nodes.specs.Nodes.{words_per_node, parent_word, at, word, parent, next, label, depth, size}
 use Rattle.index_links.specs.Links.{link_to, link, unlink}
 
--- a store for each word
+-- the words of node f written over at once
+pub words_laid : (N : List ℕ) (f : ℕ) (bs : List ℕ) → length bs ≡ words_per_node → f < size N →
+    put_mid (f * words_per_node) (f * words_per_node + words_per_node - f * words_per_node) N bs ≡ laid N (at f parent_word) bs
+words_laid N f bs n h =
+    let k : f * words_per_node + words_per_node - f * words_per_node ≡ length bs = omega arith in
+    let a : at f parent_word ≡ f * words_per_node = omega arith in
+    rw (k, a, laid_is N (f * words_per_node) bs (omega arith), drop-drop)
+
+-- the same, word after word
 next_laid : (N : List ℕ) (a : ℕ) (bs : List ℕ) (k b : ℕ) → k ≡ a + length bs → set (laid N a bs) k b ≡ laid N a (bs ++ (b ∷ []))
 next_laid N a bs k b e = rw e (laid_set N a bs b)
 
@@ -142,10 +151,10 @@ module _ (M : List ℕ) (f q m : ℕ) (inside : f < size M) (w : link_to M (pare
       (link_to M (parent M f) (label M f)) (next M f) 0 (omega (arith, w))
 
 -- what the functions leave
-pub link_words : (N : List ℕ) (p l f w a b c d : ℕ) (L : List ℕ) → w ≡ link_to N p l → a ≡ p → b ≡ get_or N w 0 → c ≡ depth N p + 1 → d ≡ f →
-    L ≡ laid N (at f parent_word) (a ∷ 0 ∷ b ∷ l ∷ c ∷ 0 ∷ 0 ∷ []) → set L w d ≡ link N p l f
+pub link_words : (N : List ℕ) (p l f w d : ℕ) (L : List ℕ) → w ≡ link_to N p l → d ≡ depth N p →
+    L ≡ laid N (at f parent_word) (p ∷ 0 ∷ get_or N w 0 ∷ l ∷ (d + 1) ∷ 0 ∷ 0 ∷ []) → set L w f ≡ link N p l f
 unfolding link
-link_words N p l f w a b c d L hw ha hb hc hd hL = rw (hL, ha, hb, hc, hd, hw)
+link_words N p l f w d L hw hd hL = rw (hL, hd, hw)
 
 pub unlink_words : (N : List ℕ) (i w b : ℕ) (L : List ℕ) → w ≡ link_to N (parent N i) (label N i) → b ≡ next N i →
     L ≡ laid (set N w b) (at i parent_word) (0 ∷ 0 ∷ 0 ∷ 0 ∷ 0 ∷ 0 ∷ 0 ∷ []) → L ≡ unlink N i

@@ -3,8 +3,8 @@
 use Rattle.std.specs.Prelude.{◌≡◌, Bool, true, false, ◌&&◌, cond, List, [], ◌∷◌, map, ℕ, suc, ◌+◌, ◌≤◌, ◌<◌, length, get_or, ltb, eqb}
 use Rattle.ground.specs.Lists.{eq_list, from}
 use Rattle.kits.specs.Kits.{most_quantity, most_units, most_place, count, before}
-use Rattle.kits.specs.declared.Compared.{Compared}
-use Rattle.kits.specs.declared.Compared.TheVariants.{Before, Same, After}
+use Rattle.std.specs.declared.cmp.Ordering.{Ordering}
+use Rattle.std.specs.declared.cmp.Ordering.TheVariants.{Less, Equal, Greater}
 
 ------------------------------------------------------------------------
 -- Lists and rows of units
@@ -39,8 +39,8 @@ pub record GoodRow (n : ℕ) (r : List ℕ) : Type 0 where
 -- A kit "held once a checked list as a fixed row of 64 places with its length": rows, and their order
 
 -- how two rows of units stand in listing order
-unfoldable pub compared : List ℕ → List ℕ → Compared
-compared a b = cond (before a b) Before (cond (eq_list a b) Same After)
+unfoldable pub compared : List ℕ → List ℕ → Ordering
+compared a b = cond (before a b) Less (cond (eq_list a b) Equal Greater)
 
 -- a bin's quantity at each place, from 0 on
 unfoldable pub quantities : List ℕ → List ℕ

@@ -1,14 +1,14 @@
 -- What the calls of the maker's table answer, once the lent tables are known: the laws that each return of the code puts its facts into.
 use mathlib.Core.Path.{◌≡◌, refl, ap, sym, ◌∙◌}
-use mathlib.Core.Bool.{Bool, true, false, not, and-true}
+use mathlib.Core.Bool.{Bool, true, false, not}
 use mathlib.Core.List.{List, [], ◌∷◌, ◌++◌}
 use Prim.Native.Nat.{ℕ, ◌+◌, ◌-◌, ◌*◌, ◌≤◌, ◌<◌}
 use native.Mathlib.Omega.{arith}
 use lib.ListN.{get_or, length, replicate}
-use lib.Dec.{eqb, ltb}
+use lib.Dec.{ltb}
 use denote.Ref.{Bor}
 use borrow.Author.Tests.{eqb-false, eqb-true, ltb-false, not-false}
-use Rattle.ground.specs.Lists.{every, is_zero}
+use Rattle.ground.specs.Lists.{is_zero}
 use Rattle.ground.specs.Laid.{laid, zeroed}
 use Rattle.ground.specs.Stretch.{Stretch}
 use Rattle.ground.specs.Calls.{Case, Reply, Promise, answer, decide, done, given, is_refused, refused}
@@ -42,26 +42,6 @@ module _ (R M : List ℕ) where
   pub as_many_slots : makers_length R M ≡ true → slot_count M ≡ slot_count R
   unfolding makers_length
   as_many_slots e = eqb-true _ _ (every_at _ 1 e)
-
-  pub length_wrong : register_length M ≡ false → makers_length R M ≡ false
-  unfolding makers_length every
-  length_wrong e = rw e
-
-  pub slots_decide : (m n : ℕ) → register_length M ≡ true → m ≡ slot_count M → n ≡ slot_count R → eqb m n ≡ makers_length R M
-  unfolding makers_length every
-  slots_decide m n e a b = ap (λ x. eqb x n) a ∙ ap (eqb (slot_count M)) b ∙ sym (rw (e, and-true))
-
-  pub sizes_register : register_length R ≡ false → decide (beside_lengths (beside R M)) 0 ≡ refused 1 0
-  unfolding decide beside_lengths
-  sizes_register e = rw e
-
-  pub sizes_makers : register_length R ≡ true → makers_length R M ≡ false → decide (beside_lengths (beside R M)) 0 ≡ refused 1 0
-  unfolding decide beside_lengths
-  sizes_makers e f = rw (e, f)
-
-  pub sizes_good : register_length R ≡ true → makers_length R M ≡ true → decide (beside_lengths (beside R M)) 0 ≡ done 0
-  unfolding decide beside_lengths
-  sizes_good e f = rw (e, f)
 
   pub sizes_passed : is_refused (decide (beside_lengths (beside R M)) 0) ≡ false → (register_length R ≡ true) × (makers_length R M ≡ true)
   unfolding beside_lengths

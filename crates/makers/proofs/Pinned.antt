@@ -7,8 +7,7 @@ use Rattle.ground.specs.Calls.{answer, Promise}
 use Rattle.ground.specs.Stretch.{Stretch}
 use Rattle.ground.proofs.Calls.{pinned}
 use Rattle.ground.proofs.Stretch.{stretch_pinned}
-use Rattle.answers.specs.declared.Answer.{Answer}
-use Rattle.answers.specs.Answers.{reply}
+use Rattle.answers.specs.Answers.{Answer, reply}
 use Rattle.answers.proofs.Answers.{reply_determines}
 use Rattle.makers.specs.Calls.{Beside, beside, clearing_maker, holder, label_from, label_size, setting_maker, showing_label, zeroing_makers}
 

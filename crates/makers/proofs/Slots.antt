@@ -65,9 +65,6 @@ module _ (M : List ℕ) (k : ℕ) (room : k < slot_count M) where
           set ∙ ap (λ l. laid l (k * slot_bytes) (slot_of n)) is ∙ laid_over M (k * slot_bytes) (replicate slot_bytes 0) (slot_of n)
           (length-replicate {A = ℕ} slot_bytes 0 ∙ sym (length_slot_of n short)) zeros_fit
 
-      pub slot_set_length : length O ≡ length M
-      slot_set_length = ap length slot_set_lem ∙ length_laid M (k * slot_bytes) (slot_of n)
-
 -- a tail is all zeros when each of its slots is
 zero_tail : (M : List ℕ) (d m : ℕ) → length M ≡ (m + d) * slot_bytes →
     allb is_zero (drop (m * slot_bytes) M) ≡ allb (λ k. allb is_zero (slot_at M k)) (from m d)

@@ -1,12 +1,17 @@
 -- A deciding function's answer: what follows from it, how it is given by a comparison, and how a pass over all nodes gives it.
-use mathlib.Core.Path.{◌≡◌, refl, sym}
+use borrow.Author.Count.{below_more}
+use mathlib.Core.Path.{◌≡◌, refl, sym, subst, ◌∙◌}
 use mathlib.Core.Logic.{◌↔◌}
 use mathlib.Core.Bool.{Bool, true, false, not}
 use mathlib.Core.List.{List}
-use Prim.Native.Nat.{ℕ, ◌+◌, ◌≤◌, ◌<◌}
+use Prim.Native.Nat.{ℕ, ◌<◌, ◌+◌, ◌≤◌}
 use native.Mathlib.Omega.{arith}
 use lib.Dec.{eqb, ltb}
-use borrow.Author.Count.{below_more}
+use native.Mathlib.Nat.{zero-add}
+use lib.ListN.{length, get_or}
+use Rattle.std.specs.Bool.{MatchBool}
+use Rattle.std.specs.List.{AllWithin, HoldsAt, range_with_len}
+use Rattle.std.proofs.lemmas.List.FromFn.{length-range_with_len, get_or-range_with_len}
 use borrow.Author.Tests.{eqb-true, eqb-false, ltb-true, ltb-false}
 use Rattle.ground.specs.Inner.{Says, holds, fails}
 use Rattle.nodes.specs.Nodes.{size}
@@ -48,6 +53,29 @@ pub says_is : {P : Type 0} {b : Bool} (t : Bool) → Says P b → (t ≡ true) �
 says_is t (holds p) s = sym (s.1 p)
 says_is true (fails n) s = absurd (n (s.0 refl))
 says_is false (fails n) s = refl
+
+pub says_yes : {P : Type 0} → Says P true → P
+says_yes (holds p) = p
+
+pub says_no : {P : Type 0} → Says P false → P → ⊥
+says_no (fails f) = f
+
+-- every one of the n nodes was asked, up to the first that is refused
+pub each_says : {N : List ℕ} {P : ℕ → Type 0} (r : Bool) (n : ℕ) → n ≡ size N →
+    MatchBool r (AllWithin P (range_with_len 0 n) 0 (length (range_with_len 0 n)))
+    ((k : ℕ) × (k < length (range_with_len 0 n)) × HoldsAt (λ i. P i → ⊥) (range_with_len 0 n) k) → Says (Each N P) r
+each_says {N} {P} r n e h = go r h
+  where
+    len : length (range_with_len 0 n) ≡ n
+    len = length-range_with_len 0 n
+
+    at : (k : ℕ) → k < n → get_or (range_with_len 0 n) k 0 ≡ k
+    at k g = get_or-range_with_len 0 n k 0 g ∙ zero-add k
+
+    go : (b : Bool) → MatchBool b (AllWithin P (range_with_len 0 n) 0 (length (range_with_len 0 n)))
+        ((k : ℕ) × (k < length (range_with_len 0 n)) × HoldsAt (λ i. P i → ⊥) (range_with_len 0 n) k) → Says (Each N P) b
+    go true h = holds (record { each = λ k g. subst P (at k (omega (arith, e))) (h k 0 (omega arith) (omega (arith, e, len))) })
+    go false h = fails (λ A. h.2 0 (subst P (sym (at h.0 (omega (arith, h.1, len)))) (A.each h.0 (omega (arith, h.1, e, len)))))
 
 -- A pass over the n nodes has come to node i
 pub record Passing (N : List ℕ) (P : ℕ → Type 0) (n i : ℕ) : Type 0 where

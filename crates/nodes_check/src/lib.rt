@@ -10,7 +10,6 @@ ghost use Rattle.nodes.specs.Inner.{Head, Root, Used, Live, Climb, Siblings, Lin
 ghost use Rattle.nodes_check.specs.Inner.{Sib, Under, Ok, Spot, Spots, Kin, Walked, Chains, Few, FewIfLast, Fews, Unlike, With};
 ghost use Rattle.nodes_check.specs.Inner.{chain_tags, most_sum, tallied, word_bits, bit};
 
-use ground::wide16;
 use kits::{MOST_QUANTITY, MOST_UNITS};
 use nodes::{
     child_at, depth_at, free_at, label_at, next_at, node_count, parent_at, tag_at, tally_at,
@@ -26,16 +25,10 @@ fn root_ok(nodes: &[u16]) -> bool
     requires { 0 < size nodes.now }
     ensures { Says (Root nodes.now) result }
 {
-    if parent_at(nodes, 0) != 0 {
-        return false;
-    }
-    if next_at(nodes, 0) != 0 {
-        return false;
-    }
-    if label_at(nodes, 0) != 0 {
-        return false;
-    }
-    depth_at(nodes, 0) == 0
+    parent_at(nodes, 0) == 0
+        && next_at(nodes, 0) == 0
+        && label_at(nodes, 0) == 0
+        && depth_at(nodes, 0) == 0
 }
 
 // A first child c that is in the table.
@@ -43,10 +36,7 @@ fn head_under(nodes: &[u16], i: usize, c: usize) -> bool
     requires { (c < size nodes.now) × (c ≡ child nodes.now i) × (0 < c) }
     ensures { Says (Head nodes.now i) result }
 {
-    if label_at(nodes, c) == 0 {
-        return false;
-    }
-    parent_at(nodes, c) == i
+    label_at(nodes, c) != 0 && parent_at(nodes, c) == i
 }
 
 // "a first child is none or a used node other than the root that names that node as parent"
@@ -55,13 +45,7 @@ fn head_ok(nodes: &[u16], i: usize) -> bool
     ensures { Says (Head nodes.now i) result }
 {
     let c = child_at(nodes, i);
-    if c == 0 {
-        return true;
-    }
-    if node_count(nodes) <= c {
-        return false;
-    }
-    head_under(nodes, i, c)
+    c == 0 || (c < node_count(nodes) && head_under(nodes, i, c))
 }
 
 // A next sibling s that is in the table.
@@ -69,10 +53,7 @@ fn sib_under(nodes: &[u16], i: usize, s: usize) -> bool
     requires { (s < size nodes.now) × (i < size nodes.now) × (s ≡ next nodes.now i) × (0 < s) }
     ensures { Says (Sib nodes.now i) result }
 {
-    if parent_at(nodes, s) != parent_at(nodes, i) {
-        return false;
-    }
-    label_at(nodes, i) < label_at(nodes, s)
+    parent_at(nodes, s) == parent_at(nodes, i) && label_at(nodes, i) < label_at(nodes, s)
 }
 
 // "a next sibling is none or a used node other than the root with the same parent and a greater label"
@@ -81,13 +62,7 @@ fn sib_ok(nodes: &[u16], i: usize) -> bool
     ensures { Says (Sib nodes.now i) result }
 {
     let s = next_at(nodes, i);
-    if s == 0 {
-        return true;
-    }
-    if node_count(nodes) <= s {
-        return false;
-    }
-    sib_under(nodes, i, s)
+    s == 0 || (s < node_count(nodes) && sib_under(nodes, i, s))
 }
 
 // "a used parent (the root counts), depth one more than its parent's and at most 64, and a label from 1 to the number of parts, at least its
@@ -99,22 +74,7 @@ fn under_ok(nodes: &[u16], parts: u16, i: usize, q: usize) -> bool
     let m = label_at(nodes, q);
     let l = label_at(nodes, i);
     let d = depth_at(nodes, i);
-    if d != depth_at(nodes, q) + 1 {
-        return false;
-    }
-    if MOST_UNITS < d {
-        return false;
-    }
-    if parts < l {
-        return false;
-    }
-    if l < m {
-        return false;
-    }
-    if q == 0 {
-        return true;
-    }
-    m != 0
+    d == depth_at(nodes, q) + 1 && d <= MOST_UNITS && l <= parts && m <= l && (q == 0 || m != 0)
 }
 
 fn node_ok(nodes: &[u16], parts: u16, i: usize) -> bool
@@ -122,10 +82,7 @@ fn node_ok(nodes: &[u16], parts: u16, i: usize) -> bool
     ensures { Says (Ok parts nodes.now i) result }
 {
     let q = parent_at(nodes, i);
-    if node_count(nodes) <= q {
-        return false;
-    }
-    under_ok(nodes, parts, i, q)
+    q < node_count(nodes) && under_ok(nodes, parts, i, q)
 }
 
 // Whether node i is right by itself.
@@ -157,15 +114,7 @@ fn spot_ok(nodes: &[u16], parts: u16, i: usize) -> bool
 fn spots_ok(nodes: &[u16], parts: u16) -> bool
     ensures { Says (Spots parts nodes.now) result }
 {
-    let n = node_count(nodes);
-    let mut i = 0;
-    while i < n {
-        if !spot_ok(nodes, parts, i) {
-            return false;
-        }
-        i += 1;
-    }
-    true
+    (0..node_count(nodes)).all(|i| spot_ok(nodes, parts, i))
 }
 
 // What a chain comes to: how many nodes it has, and how many tagged nodes these say are at or below them.
@@ -176,20 +125,21 @@ struct Chain {
 }
 
 // Walks the chain that starts at the link h. No node comes twice, so the sum of their words is bounded, damaged ones too.
+// (It follows links, and counts what it meets: there is no range to go over. `Live` and `Used` say where a link or a node stands, and are no types: the
+// same number is another node in another table.)
 fn walk_chain(nodes: &[u16], h: usize) -> Chain
-    requires fact_1 { Siblings nodes.now }
-    requires fact_2 { Live nodes.now h }
-    requires fact_3 { size nodes.now ≤ most_nodes }
+    requires siblings { Siblings nodes.now }
+    requires live { Live nodes.now h }
+    requires few_nodes { size nodes.now ≤ most_nodes }
     ensures { Walked nodes.now h result }
 {
     let mut at = h;
     let mut k = 0;
     let mut sum = 0;
     while at != 0 {
-        let s = next_at(nodes, at);
-        sum += wide16(tally_at(nodes, at));
+        sum += usize::from(tally_at(nodes, at));
         k += 1;
-        at = s;
+        at = next_at(nodes, at);
     }
     Chain {
         nodes: k,
@@ -199,13 +149,13 @@ fn walk_chain(nodes: &[u16], h: usize) -> Chain
 
 // "the number of tagged nodes at or below it": one for its own tag, and what the nodes of its chain say.
 fn tally_ok(nodes: &[u16], i: usize, below: usize) -> bool
-    requires fact_1 { i < size nodes.now }
-    requires fact_2 { below ≡ chain_tags nodes.now (child nodes.now i) }
-    requires fact_3 { below ≤ most_sum }
+    requires node { i < size nodes.now }
+    requires chain { below ≡ chain_tags nodes.now (child nodes.now i) }
+    requires bounded { below ≤ most_sum }
     ensures { result ≡ tallied nodes.now i }
 {
-    let own = (tag_at(nodes, i) != 0) as usize;
-    wide16(tally_at(nodes, i)) == own + below
+    let own = usize::from(tag_at(nodes, i) != 0);
+    usize::from(tally_at(nodes, i)) == own + below
 }
 
 // "every used node but the root is found on its parent's chain", and every tally is right by its chain: each chain is walked once. A
@@ -215,18 +165,15 @@ fn chains_ok(nodes: &[u16]) -> bool
     ensures { Says (Chains nodes.now) result }
 {
     let n = node_count(nodes);
-    let mut i = 0;
     let mut used: usize = 0;
     let mut met: usize = 0;
-    while i < n {
+    for i in 0..n {
         let chain = walk_chain(nodes, child_at(nodes, i));
         if !tally_ok(nodes, i, chain.tags) {
             return false;
         }
         met += chain.nodes;
-        let l = label_at(nodes, i);
-        i += 1;
-        if l != 0 {
+        if label_at(nodes, i) != 0 {
             used += 1;
         }
     }
@@ -234,9 +181,10 @@ fn chains_ok(nodes: &[u16]) -> bool
 }
 
 // "no path has more than 15 equal labels": labels rise down a path, so equal ones stand together, and the climb stops where the label falls.
+// (It follows links too.)
 fn few_ok(nodes: &[u16], i: usize) -> bool
-    requires fact_1 { Climb nodes.now }
-    requires fact_2 { Used nodes.now i }
+    requires climb { Climb nodes.now }
+    requires used { Used nodes.now i }
     ensures { Says (Few nodes.now i) result }
 {
     let l = label_at(nodes, i);
@@ -254,8 +202,8 @@ fn few_ok(nodes: &[u16], i: usize) -> bool
 
 // The climb starts only where no child goes on with the label. The label of no child is the root's, 0.
 fn few_if(nodes: &[u16], i: usize) -> bool
-    requires fact_1 { Links nodes.now }
-    requires fact_2 { i < size nodes.now }
+    requires links { Links nodes.now }
+    requires node { i < size nodes.now }
     ensures { Says (FewIfLast nodes.now i) result }
 {
     let l = label_at(nodes, i);
@@ -273,15 +221,7 @@ fn fews_ok(nodes: &[u16]) -> bool
     requires { Links nodes.now }
     ensures { Says (Fews nodes.now) result }
 {
-    let n = node_count(nodes);
-    let mut i = 0;
-    while i < n {
-        if !few_if(nodes, i) {
-            return false;
-        }
-        i += 1;
-    }
-    true
+    (0..node_count(nodes)).all(|i| few_if(nodes, i))
 }
 
 // Bit b of a word.
@@ -305,11 +245,8 @@ fn tags_ok(nodes: &[u16]) -> bool
     ensures { Says (Unlike nodes.now) result }
 {
     let mut seen: [u64; TAG_WORDS] = [0; TAG_WORDS];
-    let n = node_count(nodes);
-    let mut at = 0;
-    while at < n {
-        let t = wide16(tag_at(nodes, at));
-        at += 1;
+    for i in 0..node_count(nodes) {
+        let t = usize::from(tag_at(nodes, i));
         if t != 0 {
             let w = seen[t / WORD_BITS];
             if bit_at(w, t % WORD_BITS) != 0 {

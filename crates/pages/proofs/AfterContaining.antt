@@ -11,7 +11,7 @@ use Rattle.nodes.specs.Inner.{rank}
 use Rattle.questions.specs.Inner.{covers, first_from, still_wanted, AtList, want_after}
 use Rattle.questions.specs.declared.Want.{Want}
 use Rattle.questions.proofs.Asked.{next_asks, visit}
-use Rattle.questions.proofs.Containing.{SeenIn, seen, Entered, entered, to_child}
+use Rattle.questions.proofs.ListWalk.{SeenIn, seen, Entered, entered, to_child}
 use Rattle.pages.specs.Inner.{first_after, Alongside}
 use Rattle.pages.proofs.After.{Beside, Meets, came_to, after_stopped, child_along, after_below, after_behind}
 

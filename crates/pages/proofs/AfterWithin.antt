@@ -7,7 +7,7 @@ use Rattle.kits.specs.Inner.{fits_along}
 use Rattle.nodes.specs.Nodes.{child, next, tag}
 use Rattle.nodes.specs.Inner.{rank}
 use Rattle.questions.specs.Inner.{fits, first_from, AtBin, had_of}
-use Rattle.questions.proofs.Within.{SeenIn, to_next, fits_over, Entered, entered, to_child}
+use Rattle.questions.proofs.BinWalk.{SeenIn, to_next, fits_over, Entered, entered, to_child}
 use Rattle.pages.specs.Inner.{first_after, Alongside}
 use Rattle.pages.proofs.After.{Beside, Meets, came_to, after_skipped, child_along, after_below, after_behind}
 

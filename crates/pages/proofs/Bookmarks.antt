@@ -8,7 +8,7 @@ use native.Mathlib.Omega.{arith}
 use lib.Dec.{leb}
 use lib.ListN.{length, get_or, drop, drop_of_length-le}
 use lib.Seq.{drop-cons}
-use borrow.Author.Tests.{leb-true, le-leb, lt-leb, eqb-false, eq-eqb, ne_eqb, not-true}
+use borrow.Author.Tests.{leb-true, le-leb, lt-leb, eqb-false, ne_eqb, not-true}
 use Rattle.ground.specs.Lists.{allb, every, is_zero}
 use Rattle.ground.proofs.Laws.{and_left, and_right, and_both, every_at, same_cases}
 use Rattle.kits.specs.Kits.{most_quantity, most_units, count, units_in}
@@ -19,31 +19,13 @@ use Rattle.kits.proofs.Units.{Upto, no_more, place, upto_at, upto_is, row_rising
 use Rattle.nodes.proofs.Lists.{zero_or, same_or}
 use Rattle.nodes.proofs.Sorted.{allb_mem, mem_allb}
 use Rattle.questions.specs.Inner.{had_of}
-use Rattle.questions.proofs.Within.{had_same, had_none}
+use Rattle.questions.proofs.BinWalk.{had_same, had_none}
 use Rattle.pages.specs.declared.Bookmark.{Bookmark}
 use Rattle.pages.specs.Pages.{never_falls, is_place, few_in, good_units, good_bookmark}
 use Rattle.pages.specs.Inner.{good_place, good_along, len_shown}
 
 -- One place, test by test
 module _ (parts last x had : ℕ) where
-  pub place_falls : x < last → false ≡ good_place parts last x had
-  unfolding good_place every
-  place_falls h = rw (lt-leb last x h)
-
-  module _ (h : last ≤ x) where
-    pub place_none : x ≡ 0 → false ≡ good_place parts last x had
-    unfolding good_place every
-    place_none z = rw (le-leb last x h, eq-eqb x 0 z)
-
-    module _ (n : (x ≡ 0 → ⊥)) where
-      pub place_beyond : parts < x → false ≡ good_place parts last x had
-      unfolding good_place every
-      place_beyond g = rw (le-leb last x h, ne_eqb x 0 n, lt-leb x parts g)
-
-      pub place_counted : x ≤ parts → leb had most_quantity ≡ good_place parts last x had
-      unfolding good_place every
-      place_counted g = rw (le-leb last x h, ne_eqb x 0 n, le-leb x parts g, and-true)
-
   place_is : good_place parts last x had ≡ true → (last ≤ x) × (0 < x) × (x ≤ parts) × (had ≤ most_quantity)
   unfolding good_place every
   place_is e =
@@ -61,7 +43,8 @@ module _ (parts last x had : ℕ) where
   place_few e = (place_is e).3
 
   is_place_lem : last ≤ x → 0 < x → x ≤ parts → had ≤ most_quantity → good_place parts last x had ≡ true
-  is_place_lem a b c d = sym (place_counted a (λ e. omega arith) c) ∙ le-leb had most_quantity d
+  unfolding good_place every
+  is_place_lem a b c d = rw (le-leb last x a, ne_eqb x 0 (λ e. omega arith), le-leb x parts c, le-leb had most_quantity d)
 
 -- One step of the pass, by index, and its end
 module _ (parts last had : ℕ) (r : List ℕ) (i : ℕ) where
@@ -234,6 +217,9 @@ module _ (parts : ℕ) (r : List ℕ) where
   -- so the units of a good row are good
   pub good_row_units : GoodRow parts r → good_units parts r ≡ true
   good_row_units g = known_units (row_rising g) (row_upto g) g.few
+
+-- what the pass goes by
+pub ruleset one_pass = (had_few, place_few, good_along_no, good_along_yes, good_along_end, along_is_good)
 
 -- The whole bookmark, test by test
 module _ (parts : ℕ) (b : Bookmark) where

@@ -3,7 +3,7 @@ use mathlib.Core.Path.{◌≡◌}
 use mathlib.Core.List.{List}
 use Prim.Native.Nat.{ℕ, ◌≤◌, ◌<◌}
 use native.Mathlib.Omega.{arith}
-use Rattle.nodes.specs.Nodes.{next, label, size}
+use Rattle.nodes.specs.Nodes.{next, label}
 use Rattle.nodes.specs.Inner.{Used, Live, Shape, rank}
 use Rattle.nodes.proofs.Walk.{next_less}
 use Rattle.pages.specs.Inner.{Reaches, ended, here, later}
@@ -12,18 +12,12 @@ pub record Reaching (N : List ℕ) (place link at : ℕ) : Type 0 where
   pub live : Live N at
   pub made : (r : ℕ) → Reaches N place at r → Reaches N place link r
 
-pub reach_first : {N : List ℕ} {place link : ℕ} → Live N link → Reaching N place link link
-reach_first l = record { live = l; made = λ r h. h }
-
-pub reach_none : {N : List ℕ} {place link at : ℕ} → Reaching N place link at → at ≡ 0 → Reaches N place link 0
-reach_none R z = R.made 0 (rw z ended)
+pub reach_none : {N : List ℕ} {place link at : ℕ} → Reaching N place link at → at ≡ 0 → Reaches N place link at
+reach_none {at = at} R z = R.made at (rw z ended)
 
 module _ {N : List ℕ} {place link at : ℕ} (R : Reaching N place link at) (n : at ≡ 0 → ⊥) where
   a_node : Used N at
   a_node = R.live (omega arith)
-
-  pub reach_inside : at < size N
-  reach_inside = a_node.inside
 
   module _ {l : ℕ} (e : l ≡ label N at) where
     pub reach_here : place ≤ l → Reaches N place link at

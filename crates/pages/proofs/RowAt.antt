@@ -10,9 +10,9 @@ use Rattle.ground.proofs.Laid.{laid_nil, laid_front}
 use Rattle.ground.proofs.Laws.{empty_list}
 use Rattle.kits.specs.Kits.{most_units, fixed_row}
 use Rattle.kits.proofs.Lists.{laid_zeros}
-use Rattle.nodes.specs.Nodes.{parent, label, depth, size, row_of}
+use Rattle.nodes.specs.Nodes.{parent, label, depth, row_of}
 use Rattle.nodes.specs.Inner.{Used, Live, Shape}
-use Rattle.nodes.proofs.Rows.{climb, parent_live, live_inside, row_step, row_length, row_good, deep_used, length_snoc}
+use Rattle.nodes.proofs.Rows.{climb, parent_live, row_step, row_length, row_good, deep_used, length_snoc}
 
 -- one element set, and what stands before it laid in front of it
 laid_before : (l bs : List ℕ) (b : ℕ) → length bs < length l → laid (set l (length bs) b) 0 bs ≡ laid l 0 (bs ++ (b ∷ []))
@@ -47,9 +47,6 @@ module _ {parts : ℕ} {N : List ℕ} (S : Shape parts N) where
       }
 
   module _ {i : ℕ} {places : List ℕ} {at d : ℕ} (U : WalkedUp N i places at d) where
-    pub up_inside : at < size N
-    up_inside = live_inside (climb S) at U.live
-
     pub up_step : {x p e : ℕ} → (d ≡ 0 → ⊥) → e ≡ d - 1 → x ≡ label N at → p ≡ parent N at → WalkedUp N i (set places e x) p e
     up_step {x} {p} {e} n k f g =
         let u : Used N at = deep_used (climb S) at U.live (omega (arith, U.deep)) in

@@ -1,6 +1,6 @@
 -- From the node found to the page: what a step answers, and where it leaves the bookmark.
 use mathlib.Core.Path.{◌≡◌, refl, sym, ap, ◌∙◌}
-use mathlib.Core.Bool.{Bool, true, false, ◌&&◌, cond}
+use mathlib.Core.Bool.{Bool, true, false, cond, ◌&&◌}
 use mathlib.Core.List.{List, [], ◌∷◌, map, Memᴰ}
 use Prim.Native.Nat.{ℕ, zero, suc}
 use native.Mathlib.Omega.{arith}
@@ -10,7 +10,7 @@ use Rattle.ground.specs.Calls.{Promise, plan, answer, decide}
 use Rattle.ground.proofs.Laws.{and_left}
 use Rattle.ground.proofs.Calls.{promise_done}
 use Rattle.answers.specs.Answers.{reply}
-use Rattle.answers.specs.declared.Answer.TheVariants.{Done}
+use Rattle.std.specs.Prelude.{Ok}
 use Rattle.kits.specs.Kits.{most_place, good_list, units, fixed_row}
 use Rattle.kits.specs.Inner.{quantities}
 use Rattle.kits.specs.declared.Row.{Row}
@@ -22,8 +22,8 @@ use Rattle.nodes.proofs.Sorted.{Every, none, also, every_map, keep_same, keep_tw
 use Rattle.nodes.proofs.Walk.{root_child}
 use Rattle.questions.specs.Questions.{is_within, is_containing, fitting}
 use Rattle.questions.specs.Inner.{fits, covers, found_in}
+use Rattle.questions.specs.Tests.{within_tests, containing_tests}
 use Rattle.questions.proofs.Found.{found_used, first_live, kits_found}
-use Rattle.questions.proofs.Answered.{within_test, containing_test}
 use Rattle.pages.specs.declared.Bookmark.{Bookmark}
 use Rattle.pages.specs.declared.Page.{Page}
 use Rattle.pages.specs.Pages.{row_shown, comes_after, following, moved_on, turn_page}
@@ -31,12 +31,12 @@ use Rattle.pages.specs.Inner.{len_shown, page_at, passes_after, first_after}
 
 -- The page at a node, and at none
 module _ (N : List ℕ) (b : Bookmark) where
-  pub page_none : {i : ℕ} → i ≡ 0 → record { answer = Done 0; mark = b } ≡ page_at N b i
+  pub page_none : {i : ℕ} → i ≡ 0 → record { answer = Ok 0; mark = b } ≡ page_at N b i
   unfolding page_at
   page_none e = rw e
 
   pub page_found : (i : ℕ) {v : ℕ} {row : Row} → (i ≡ 0 → ⊥) → row ≡ fixed_row (row_of N i) → v ≡ tag N i →
-      record { answer = Done v; mark = record { begun = true; row = row } } ≡ page_at N b i
+      record { answer = Ok v; mark = record { begun = true; row = row } } ≡ page_at N b i
   unfolding page_at
   page_found zero n e f = absurd (n refl)
   page_found (suc i) n e f = rw (e, f)
@@ -72,47 +72,34 @@ module _ {parts : ℕ} {N : List ℕ} (S : Shape parts N) (b : Bookmark) (l : Li
       ∙ kits_found S (passes_after (row_shown b) test) (λ (k : Kit). question (units l) k && comes_after (row_shown b) k)
       (λ k m. ap (λ t. t && comes_after (row_shown b) k) (f k m))
 
-  page_turned : {r : ℕ} {p : Page} → r ≡ first_after (row_shown b) test N (child N 0) → p ≡ page_at N b r →
+  pub page_turned : {r : ℕ} {p : Page} → r ≡ first_after (row_shown b) test N (child N 0) → p ≡ page_at N b r →
       Promise (turn_page [] question l N b) b (reply p.answer) p.mark
   unfolding turn_page
   page_turned e g =
       rw (g, e, following_found) (first_page N b (every_map (λ i u z. omega (arith, used_pos (climb S) i u, z))
       (found_used S (passes_after (row_shown b) test) (root_child S))))
 
--- How many places of the row count, and which
-module _ (b : Bookmark) where
-  pub len_begun : b.begun ≡ true → b.row.len ≡ len_shown b
-  unfolding len_shown
-  len_begun e = rw e
-
-  pub len_not_begun : b.begun ≡ false → 0 ≡ len_shown b
-  unfolding len_shown
-  len_not_begun e = rw e
-
-  row_shown_lem : {n : ℕ} → n ≡ len_shown b → take n b.row.places ≡ row_shown b
-  unfolding len_shown row_shown
-  row_shown_lem e = rw e (go b.begun)
-    where
-      go : (t : Bool) → take (cond t b.row.len 0) b.row.places ≡ cond t (take b.row.len b.row.places) []
-      go true = refl
-      go false = refl
-
 -- a node that the walk found may be read
 pub found_live : {parts : ℕ} {N : List ℕ} → Shape parts N → (r : List ℕ) (test : List ℕ → Bool) {i : ℕ} →
     i ≡ first_after r test N (child N 0) → Live N i
 found_live S r test e = rw e (first_live S (passes_after r test) (root_child S))
+
+-- the row that a bookmark's length counts is the row shown
+row_shown_lem : (b : Bookmark) {n : ℕ} → n ≡ len_shown b → take n b.row.places ≡ row_shown b
+unfolding len_shown row_shown
+row_shown_lem b e = rw e (go b.begun)
+  where
+    go : (t : Bool) → take (cond t b.row.len 0) b.row.places ≡ cond t (take b.row.len b.row.places) []
+    go true = refl
+    go false = refl
 
 -- The next page of each question: a walk from the row's places that count finds node i, and p is the page there
 module _ {N : List ℕ} (l : List ℕ) (b : Bookmark) {i n : ℕ} {p : Page} (S : Shape most_place N) (g : good_list most_place l ≡ true)
     (e : n ≡ len_shown b) (h : p ≡ page_at N b i) where
   pub turned_within : i ≡ first_after (take n b.row.places) (fits (quantities l)) N (child N 0) →
       Promise (turn_page [] is_within l N b) b (reply p.answer) p.mark
-  turned_within f =
-      page_turned S b l is_within (fits (quantities l)) (within_test l S g)
-      (f ∙ ap (λ r. first_after r (fits (quantities l)) N (child N 0)) (row_shown_lem b e)) h
+  turned_within f = page_turned S b l is_within (fits (quantities l)) (within_tests.alike N l S g) (rw (row_shown_lem b e) at f) h
 
   pub turned_containing : i ≡ first_after (take n b.row.places) (covers l) N (child N 0) →
       Promise (turn_page [] is_containing l N b) b (reply p.answer) p.mark
-  turned_containing f =
-      page_turned S b l is_containing (covers l) (containing_test l S g)
-      (f ∙ ap (λ r. first_after r (covers l) N (child N 0)) (row_shown_lem b e)) h
+  turned_containing f = page_turned S b l is_containing (covers l) (containing_tests.alike N l S g) (rw (row_shown_lem b e) at f) h

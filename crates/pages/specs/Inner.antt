@@ -1,8 +1,7 @@
 -- Inner: no promise of the house rests on what stands here; inner contracts and proofs speak by it.
 -- A row's places looked at one by one, and what the walk to the next kit keeps.
-use Rattle.std.specs.Prelude.{◌≡◌, Bool, true, ◌&&◌, cond, not, List, [], ◌∷◌, ℕ, zero, suc, ◌+◌, ◌≤◌, ◌<◌, length, take, leb}
+use Rattle.std.specs.Prelude.{◌≡◌, Bool, true, ◌&&◌, cond, not, List, [], ◌∷◌, Ok, ℕ, zero, suc, ◌+◌, ◌≤◌, ◌<◌, length, take, leb}
 use Rattle.ground.specs.Lists.{every, is_zero}
-use Rattle.answers.specs.declared.Answer.TheVariants.{Done}
 use Rattle.kits.specs.Kits.{most_quantity, before, fixed_row}
 use Rattle.nodes.specs.Nodes.{parent, next, label, tag, row_of}
 use Rattle.questions.specs.Inner.{first_from, had_of}
@@ -28,9 +27,9 @@ len_shown b = cond b.begun b.row.len 0
 
 -- the page at a node, and at none
 unfoldable pub page_at : List ℕ → Bookmark → ℕ → Page
-page_at N b zero = record { answer = Done 0; mark = b }
+page_at N b zero = record { answer = Ok 0; mark = b }
 page_at N b (suc i) =
-    record { answer = Done (tag N (suc i)); mark = record { begun = true; row = fixed_row (row_of N (suc i)) } }
+    record { answer = Ok (tag N (suc i)); mark = record { begun = true; row = fixed_row (row_of N (suc i)) } }
 
 ------------------------------------------------------------------------
 -- The walk to the first kit after a row

@@ -1,8 +1,15 @@
 // The letters: each makes one call, on what it needs of the memory lent. A new letter is a line of `call`, or of `call_register`.
-use crate::marks::{BEGUN, MARK_WORDS, mark_in, put_mark};
+// (The letter stays a byte: it is the format of a request, and what no line names breaks it.)
+ghost use Rattle.std.specs.Prelude.{◌≡◌, ◌+◌, length};
+ghost use Rattle.kits.specs.Kits.{most_units};
+
+use crate::blocks::Blocks;
+use crate::marks::{mark_in, put_mark};
 use crate::reading::Request;
 use answers::{Answer, reply_of};
 use makers::{clear_maker, label, label_answer, set_maker, zero_makers};
+use pages::Page;
+use questions::{Containing, Within};
 use register::{look_up, register_number, show, show_answer};
 
 // A reply, and the second and third number of a call that has them.
@@ -14,114 +21,103 @@ pub struct Told {
     pub third: usize,
 }
 
-// What a request comes to: an unknown letter, or a K that holds no bookmark where one is turned, breaks it.
-#[derive(Clone, Copy)]
-pub enum Called {
-    Answers(Told),
-    Broken,
-}
-
-fn tells(a: Answer) -> Called {
+fn tells(a: Answer) -> Told {
     let r = reply_of(a);
-    Called::Answers(Told {
+    Told {
         number: r.number,
         value: r.value,
         second: 0,
         third: 0,
-    })
+    }
 }
 
-// The next page of the kits within the bin, or of those containing the list, with the bookmark moved on where it stands.
-fn turns(reg: &[u8], nodes: &[u16], list: &[u16], mark: &mut [u16], containing: bool) -> Called {
-    if mark.len() != MARK_WORDS {
-        return Called::Broken;
-    }
-    if BEGUN < mark[0] {
-        return Called::Broken;
-    }
-    let before = mark_in(mark);
-    let page = if containing {
-        catalogue::page_containing(reg, nodes, list, before)
-    } else {
-        catalogue::page_within(reg, nodes, list, before)
-    };
-    let after = page.mark;
-    put_mark(mark, after);
-    let answer = page.answer;
-    tells(answer)
+// A page was shown: the bookmark is moved on where it stands.
+fn turns(mark: &mut [u16], page: Page) -> Answer
+    requires { length mark.old ≡ most_units + 2 }
+{
+    put_mark(mark, page.mark);
+    page.answer
 }
 
 // Salvage has three numbers: the kits kept, the kits announced, and the offset; refused, 0, 0 and the refusal's value.
-fn rescues(reg: &mut [u8], nodes: &mut [u16], s: &[u8]) -> Called {
+fn rescues(reg: &mut [u8], nodes: &mut [u16], s: &[u8]) -> Told {
     let rescued = catalogue::salvage(reg, nodes, s);
     let report = rescued.report;
-    let answer = rescued.answer;
-    Called::Answers(Told {
-        number: reply_of(answer).number,
+    Told {
+        number: reply_of(rescued.answer).number,
         value: report.kept,
         second: report.announced,
         third: report.third,
-    })
+    }
 }
 
 // The calls that are lent no node table.
-fn call_register(ask: Request, reg: &mut [u8], makers: &mut [u8], input: &[u8]) -> Called {
-    let letter = ask.letter;
-    match letter {
-        b'p' => tells(register_number(reg, input)),
-        b'l' => tells(look_up(reg, input)),
-        b'n' => tells(show_answer(reg, ask.a)),
-        b'z' => tells(zero_makers(reg, makers)),
-        b'm' => tells(set_maker(reg, makers, ask.a, input)),
-        b'u' => tells(clear_maker(reg, makers, ask.a)),
-        b'v' => tells(label_answer(reg, makers, ask.a)),
-        _ => Called::Broken,
+fn call_register(ask: Request, reg: &mut [u8], makers: &mut [u8], input: &[u8]) -> Option<Answer> {
+    match ask.letter {
+        b'p' => Some(register_number(reg, input)),
+        b'l' => Some(look_up(reg, input)),
+        b'n' => Some(show_answer(reg, ask.a)),
+        b'z' => Some(zero_makers(reg, makers)),
+        b'm' => Some(set_maker(reg, makers, ask.a, input)),
+        b'u' => Some(clear_maker(reg, makers, ask.a)),
+        b'v' => Some(label_answer(reg, makers, ask.a)),
+        _ => None,
     }
 }
 
-pub fn call(
-    ask: Request,
-    reg: &mut [u8],
-    makers: &mut [u8],
-    nodes: &mut [u16],
-    list: &[u16],
-    input: &[u8],
-    places: &mut [u16],
-    seconds: &mut [u16],
-    output: &mut [u8],
-    mark: &mut [u16],
-    drawers: &mut [u16],
-) -> Called {
-    let letter = ask.letter;
-    match letter {
-        b'e' => tells(catalogue::empty(reg, nodes)),
-        b'k' => tells(catalogue::insert(reg, nodes, list, ask.a)),
-        b'f' => tells(catalogue::find(reg, nodes, list)),
-        b'd' => tells(catalogue::delete(reg, nodes, list)),
-        b'#' => tells(catalogue::count_beginning(reg, nodes, list)),
-        b'w' => tells(catalogue::any_within(reg, nodes, list)),
-        b'c' => tells(catalogue::any_containing(reg, nodes, list)),
-        b'W' => tells(catalogue::all_within(reg, nodes, list, places)),
-        b'C' => tells(catalogue::all_containing(reg, nodes, list, places)),
-        b'a' => tells(catalogue::all_almost(reg, nodes, list, ask.a, places, seconds)),
-        b's' => tells(catalogue::write_sheet(reg, nodes, output)),
-        b'r' => tells(catalogue::read_sheet(reg, nodes, input)),
-        b'S' => rescues(reg, nodes, input),
-        b'x' => tells(catalogue::write_card(reg, nodes, list, output)),
-        b'X' => tells(catalogue::read_card(reg, nodes, input)),
-        b'g' => turns(reg, nodes, list, mark, false),
-        b'G' => turns(reg, nodes, list, mark, true),
-        _ => call_register(ask, reg, makers, input),
+impl Blocks<'_> {
+    // Makes the call of a letter, if it has one. Where a page is turned, K has to hold a bookmark.
+    pub fn call(&mut self, ask: Request) -> Option<Told> {
+        let reg = &mut *self.reg;
+        let nodes = &mut *self.nodes;
+        let list = &mut *self.list;
+        let input = &mut *self.input;
+        let places = &mut *self.places;
+        let seconds = &mut *self.seconds;
+        let makers = &mut *self.makers;
+        let output = &mut *self.output;
+        let mark = &mut *self.mark;
+        let answer = match ask.letter {
+            b'e' => catalogue::empty(reg, nodes),
+            b'k' => catalogue::insert(reg, nodes, list, ask.a),
+            b'f' => catalogue::find(reg, nodes, list),
+            b'd' => catalogue::delete(reg, nodes, list),
+            b'#' => catalogue::count_beginning(reg, nodes, list),
+            b'w' => catalogue::any::<Within>(reg, nodes, list),
+            b'c' => catalogue::any::<Containing>(reg, nodes, list),
+            b'W' => catalogue::all::<Within>(reg, nodes, list, places),
+            b'C' => catalogue::all::<Containing>(reg, nodes, list, places),
+            b'a' => catalogue::all_almost(reg, nodes, list, ask.a, places, seconds),
+            b's' => catalogue::write_sheet(reg, nodes, output),
+            b'r' => catalogue::read_sheet(reg, nodes, input),
+            b'S' => return Some(rescues(reg, nodes, input)),
+            b'x' => catalogue::write_card(reg, nodes, list, output),
+            b'X' => catalogue::read_card(reg, nodes, input),
+            b'g' => {
+                let before = mark_in(mark)?;
+                turns(
+                    mark,
+                    catalogue::next_page::<Within>(reg, nodes, list, before),
+                )
+            }
+            b'G' => {
+                let before = mark_in(mark)?;
+                turns(
+                    mark,
+                    catalogue::next_page::<Containing>(reg, nodes, list, before),
+                )
+            }
+            _ => call_register(ask, reg, makers, input)?,
+        };
+        Some(tells(answer))
     }
-}
 
-// What comes back as the output: for the calls that show a number, the stretch shown.
-pub fn shown<'a>(ask: Request, reg: &'a [u8], makers: &'a [u8], output: &'a [u8]) -> &'a [u8] {
-    if ask.letter == b'n' {
-        return show(reg, ask.a);
+    // What comes back as the output: for the calls that show a number, the stretch shown.
+    pub fn shown(&self, ask: Request) -> &[u8] {
+        match ask.letter {
+            b'n' => show(self.reg, ask.a),
+            b'v' => label(self.reg, self.makers, ask.a),
+            _ => self.output,
+        }
     }
-    if ask.letter == b'v' {
-        return label(reg, makers, ask.a);
-    }
-    output
 }

@@ -8,17 +8,16 @@
 // page, no bookmark in K, is answered by the one byte 255 and ends the program.
 #![tactic(auto)]
 
-ghost use Rattle.std.specs.Prelude.{◌<◌};
-
+mod blocks;
 mod calls;
 mod marks;
 mod numbers;
 mod reading;
 mod writing;
 
-use calls::{Called, call};
+use blocks::Blocks;
 use marks::MARK_WORDS;
-use reading::{Next, Request, read_bytes, read_next, read_words};
+use reading::{Stop, read_request};
 use std::io::{Stdin, Stdout};
 use writing::{write_answer, write_broken};
 
@@ -37,72 +36,25 @@ const OUTPUT_ROOM: usize = 65536;
 
 const DRAWERS_ROOM: usize = 1024;
 
-// Makes the call, lent the blocks of its request, and writes the answer: whether to go on.
-fn answer_request(
-    stdout: &mut Stdout,
-    ask: Request,
-    whole: bool,
-    r: &mut [u8],
-    m: &mut [u8],
-    n: &mut [u16],
-    l: &[u16],
-    i: &[u8],
-    p: &mut [u16],
-    q: &mut [u16],
-    o: &mut [u8],
-    k: &mut [u16],
-    d: &mut [u16],
-) -> bool {
-    if !whole {
-        write_broken(stdout);
-        return false;
+// Answers the next request, whose blocks are read to these rooms.
+fn answer_next(stdin: &mut Stdin, stdout: &mut Stdout, rooms: Blocks<'_>) -> Result<(), Stop> {
+    let ask = read_request(stdin)?;
+    let mut lent = rooms.read(stdin)?;
+    let told = lent.call(ask).ok_or(Stop::Broken)?;
+    write_answer(stdout, ask, told, &lent);
+    Ok(())
+}
+
+// Answers the next request, or a broken one: whether to go on.
+fn serve_one(stdin: &mut Stdin, stdout: &mut Stdout, rooms: Blocks<'_>) -> bool {
+    match answer_next(stdin, stdout, rooms) {
+        Ok(()) => true,
+        Err(Stop::Ended) => false,
+        Err(Stop::Broken) => {
+            write_broken(stdout);
+            false
+        }
     }
-    let Called::Answers(answer) = call(ask, r, m, n, l, i, p, q, o, k, d) else {
-        write_broken(stdout);
-        return false;
-    };
-    write_answer(stdout, ask, answer, r, m, n, p, q, o, k, d);
-    true
-}
-
-// Reads the next request and answers it: whether to go on.
-fn serve_one(
-    stdin: &mut Stdin,
-    stdout: &mut Stdout,
-    reg: &mut [u8],
-    makers: &mut [u8],
-    nodes: &mut [u16],
-    list: &mut [u16],
-    input: &mut [u8],
-    places: &mut [u16],
-    seconds: &mut [u16],
-    output: &mut [u8],
-    mark: &mut [u16],
-    drawers: &mut [u16],
-) -> bool {
-    let Next::Asks(ask) = read_next(stdin, stdout) else {
-        return false;
-    };
-    let mut whole = true;
-    let r = read_bytes(stdin, reg, &mut whole);
-    let m = read_bytes(stdin, makers, &mut whole);
-    let n = read_words(stdin, nodes, &mut whole);
-    let l = read_words(stdin, list, &mut whole);
-    let i = read_bytes(stdin, input, &mut whole);
-    let p = read_words(stdin, places, &mut whole);
-    let q = read_words(stdin, seconds, &mut whole);
-    let o = read_bytes(stdin, output, &mut whole);
-    let k = read_words(stdin, mark, &mut whole);
-    let d = read_words(stdin, drawers, &mut whole);
-    answer_request(stdout, ask, whole, r, m, n, l, i, p, q, o, k, d)
-}
-
-// A proved loop has to end, and nothing says that the input does: the turns fall, from a number that no run uses up.
-fn turns_left(turns: u64, go: bool) -> u64
-    requires { 0 < turns }
-    ensures { result < turns }
-{
-    if go { turns - 1 } else { 0 }
 }
 
 fn main(rt: HostRuntime) {
@@ -118,22 +70,22 @@ fn main(rt: HostRuntime) {
     let mut output = [0u8; OUTPUT_ROOM];
     let mut mark = [0u16; MARK_WORDS];
     let mut drawers = [0u16; DRAWERS_ROOM];
-    let mut turns = u64::MAX;
-    while turns > 0 {
-        let go = serve_one(
-            &mut stdin,
-            &mut stdout,
-            &mut reg,
-            &mut makers,
-            &mut nodes,
-            &mut list,
-            &mut input,
-            &mut places,
-            &mut seconds,
-            &mut output,
-            &mut mark,
-            &mut drawers,
-        );
-        turns = turns_left(turns, go);
+    // A proved loop has to end, and nothing says that the input does: these are more turns than any run has requests.
+    for _ in 0..u64::MAX {
+        let rooms = Blocks {
+            reg: &mut reg,
+            makers: &mut makers,
+            nodes: &mut nodes,
+            list: &mut list,
+            input: &mut input,
+            places: &mut places,
+            seconds: &mut seconds,
+            output: &mut output,
+            mark: &mut mark,
+            drawers: &mut drawers,
+        };
+        if !serve_one(&mut stdin, &mut stdout, rooms) {
+            break;
+        }
     }
 }

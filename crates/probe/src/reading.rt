@@ -1,10 +1,8 @@
 // Reading a request: its letter and two arguments, then its blocks, each to the start of its room.
-ghost use Rattle.std.specs.Prelude.{◌≤◌, length};
+ghost use Rattle.std.specs.Prelude.{◌≤◌, length, IfOk};
 
-use crate::numbers::{BYTES_AT_ONCE, LONG_BYTES, WORDS_AT_ONCE, long, put_words, word};
-use crate::writing::write_broken;
-use ground::least;
-use std::io::{Read, Stdin, Stdout};
+use crate::numbers::{BYTES_AT_ONCE, LONG_BYTES, WORDS_AT_ONCE, put_words};
+use std::io::{Read, Stdin};
 
 const HEAD_BYTES: usize = 5;
 
@@ -15,13 +13,14 @@ pub struct Request {
     pub b: u16,
 }
 
-#[derive(Clone, Copy)]
-pub enum Next {
-    Asks(Request),
-    End,
+// Why the program stops: the input has ended, or a request is broken.
+#[derive(Clone, Copy, Debug, PartialEq, Eq)]
+pub enum Stop {
+    Ended,
+    Broken,
 }
 
-// Reads until a buffer is full, the input ends or a read fails: how many bytes came.
+// Reads until a buffer is full, the input ends or a read fails: how many bytes came. (Its step is what a read gave, so there is no `for`.)
 fn read_full(stdin: &mut Stdin, buf: &mut [u8]) -> usize
     ensures { result ≤ length buf.new }
 {
@@ -36,98 +35,67 @@ fn read_full(stdin: &mut Stdin, buf: &mut [u8]) -> usize
     done
 }
 
+// Fills a buffer from a request that has begun.
+fn fill(stdin: &mut Stdin, buf: &mut [u8]) -> Result<(), Stop> {
+    if read_full(stdin, buf) < buf.len() {
+        return Err(Stop::Broken);
+    }
+    Ok(())
+}
+
 // Reads the letter and the arguments of the next request. The input ends before it, or within it, which breaks it.
-pub fn read_next(stdin: &mut Stdin, stdout: &mut Stdout) -> Next {
+pub fn read_request(stdin: &mut Stdin) -> Result<Request, Stop> {
     let mut head = [0u8; HEAD_BYTES];
     let got = read_full(stdin, &mut head);
     if got == 0 {
-        return Next::End;
+        return Err(Stop::Ended);
     }
     if got < HEAD_BYTES {
-        write_broken(stdout);
-        return Next::End;
+        return Err(Stop::Broken);
     }
-    let letter = head[0];
-    let a = word(head[1], head[2]);
-    let b = word(head[3], head[4]);
-    Next::Asks(Request { letter, a, b })
+    Ok(Request {
+        letter: head[0],
+        a: u16::from_be_bytes([head[1], head[2]]),
+        b: u16::from_be_bytes([head[3], head[4]]),
+    })
 }
 
-// Reads n bytes to the start of a room: whether so many came.
-fn fill(stdin: &mut Stdin, room: &mut [u8], n: usize) -> bool
-    requires { n ≤ length room.old }
+// Reads the count of a block, which is broken where its room is too small.
+fn read_count(stdin: &mut Stdin, room: usize) -> Result<usize, Stop>
+    ensures { IfOk result (λ n. n ≤ room) }
 {
-    if n == 0 {
-        return true;
-    }
-    read_full(stdin, &mut room[..n]) == n
-}
-
-// Reads the words from a place on, up to an end or as many as go through the buffer: the place behind them, or the same
-// place where they are cut short.
-fn read_some(stdin: &mut Stdin, room: &mut [u16], at: usize, end: usize) -> usize
-    requires { (at ≤ end) × (end ≤ length room.old) }
-    ensures { (at ≤ result) × (result ≤ end) }
-{
-    let n = least(end - at, WORDS_AT_ONCE);
-    let mut bytes = [0u8; BYTES_AT_ONCE];
-    if !fill(stdin, &mut bytes, n * 2) {
-        return at;
-    }
-    put_words(room, at, n, &bytes);
-    at + n
-}
-
-// Reads n words to the start of a room: whether so many came.
-fn fill_words(stdin: &mut Stdin, room: &mut [u16], n: usize) -> bool
-    requires { n ≤ length room.old }
-{
-    let mut done = 0;
-    while done < n {
-        let next = read_some(stdin, room, done, n);
-        if next == done {
-            return false;
-        }
-        done = next;
-    }
-    true
-}
-
-// Reads the count of a block. Where the request is broken, or breaks here because it is cut short or the room too small,
-// the block has none.
-fn read_count(stdin: &mut Stdin, room: usize, whole: &mut bool) -> usize
-    ensures { result ≤ room }
-{
-    if !*whole {
-        return 0;
-    }
     let mut count = [0u8; LONG_BYTES];
-    if !fill(stdin, &mut count, LONG_BYTES) {
-        *whole = false;
-        return 0;
-    }
-    let n = long(word(count[0], count[1]), word(count[2], count[3]));
+    fill(stdin, &mut count)?;
+    let n = u32::from_be_bytes(count) as usize;
     if room < n {
-        *whole = false;
-        return 0;
+        return Err(Stop::Broken);
     }
-    n
+    Ok(n)
 }
 
-// Reads a block of bytes: the part of its room that it takes.
-pub fn read_bytes<'a>(stdin: &mut Stdin, room: &'a mut [u8], whole: &mut bool) -> &'a mut [u8] {
-    let n = read_count(stdin, room.len(), whole);
-    if !fill(stdin, room, n) {
-        *whole = false;
-    }
-    &mut room[..n]
+// Reads a block of bytes: the part of its room that it takes. (Words go through a buffer and bytes do not, so the two have no generic form that is plainer.)
+pub fn read_bytes<'a>(stdin: &mut Stdin, room: &'a mut [u8]) -> Result<&'a mut [u8], Stop> {
+    let n = read_count(stdin, room.len())?;
+    let block = &mut room[..n];
+    fill(stdin, block)?;
+    Ok(block)
 }
 
 // Reads a block of words: the part of its room that it takes.
-pub fn read_words<'a>(stdin: &mut Stdin, room: &'a mut [u16], whole: &mut bool) -> &'a mut [u16] {
-    let n = read_count(stdin, room.len(), whole);
-    if !fill_words(stdin, room, n) {
-        *whole = false;
+pub fn read_words<'a>(stdin: &mut Stdin, room: &'a mut [u16]) -> Result<&'a mut [u16], Stop> {
+    let n = read_count(stdin, room.len())?;
+    let block = &mut room[..n];
+    fill_words(stdin, block)?;
+    Ok(block)
+}
+
+// Fills a block with words, as many at once as go through the buffer.
+fn fill_words(stdin: &mut Stdin, block: &mut [u16]) -> Result<(), Stop> {
+    let mut bytes = [0u8; BYTES_AT_ONCE];
+    for words in block.chunks_mut(WORDS_AT_ONCE) {
+        let size = words.len() * 2;
+        fill(stdin, &mut bytes[..size])?;
+        put_words(words, &bytes);
     }
-    &mut room[..n]
+    Ok(())
 }

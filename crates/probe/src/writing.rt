@@ -1,10 +1,8 @@
 // Writing an answer.
-ghost use Rattle.std.specs.Prelude.{◌≤◌, ◌<◌, length};
-
-use crate::calls::{Told, shown};
+use crate::blocks::Blocks;
+use crate::calls::Told;
 use crate::numbers::{BYTES_AT_ONCE, LONG_BYTES, WORDS_AT_ONCE, put_bytes, put_long};
 use crate::reading::Request;
-use ground::least;
 use std::io::{Stdout, Write};
 
 const HEAD_BYTES: usize = 13;
@@ -41,48 +39,26 @@ fn write_bytes(stdout: &mut Stdout, bytes: &[u8]) {
     write_out(stdout, bytes);
 }
 
-// Writes the words from a place on, or as many as go through the buffer: the place behind them.
-fn write_some(stdout: &mut Stdout, words: &[u16], at: usize) -> usize
-    requires { at < length words.now }
-    ensures { (at < result) × (result ≤ length words.now) }
-{
-    let n = least(words.len() - at, WORDS_AT_ONCE);
-    let size = n * 2;
+// Writes a block of words, as many at once as go through the buffer. (Bytes go by themselves: one function for both would take the way as a parameter.)
+fn write_words(stdout: &mut Stdout, block: &[u16]) {
+    write_count(stdout, block.len());
     let mut bytes = [0u8; BYTES_AT_ONCE];
-    put_bytes(&mut bytes, words, at, n);
-    write_out(stdout, &bytes[..size]);
-    at + n
-}
-
-fn write_words(stdout: &mut Stdout, words: &[u16]) {
-    write_count(stdout, words.len());
-    let mut done = 0;
-    while done < words.len() {
-        done = write_some(stdout, words, done);
+    for words in block.chunks(WORDS_AT_ONCE) {
+        let size = words.len() * 2;
+        put_bytes(&mut bytes, words);
+        write_out(stdout, &bytes[..size]);
     }
 }
 
 // Writes an answer: its numbers, then the blocks R M N P Q O K D.
-pub fn write_answer<'a>(
-    stdout: &mut Stdout,
-    ask: Request,
-    answer: Told,
-    r: &'a [u8],
-    m: &'a [u8],
-    n: &[u16],
-    p: &[u16],
-    q: &[u16],
-    o: &'a [u8],
-    k: &[u16],
-    d: &[u16],
-) {
-    write_head(stdout, answer);
-    write_bytes(stdout, r);
-    write_bytes(stdout, m);
-    write_words(stdout, n);
-    write_words(stdout, p);
-    write_words(stdout, q);
-    write_bytes(stdout, shown(ask, r, m, o));
-    write_words(stdout, k);
-    write_words(stdout, d);
+pub fn write_answer(stdout: &mut Stdout, ask: Request, told: Told, lent: &Blocks<'_>) {
+    write_head(stdout, told);
+    write_bytes(stdout, lent.reg);
+    write_bytes(stdout, lent.makers);
+    write_words(stdout, lent.nodes);
+    write_words(stdout, lent.places);
+    write_words(stdout, lent.seconds);
+    write_bytes(stdout, lent.shown(ask));
+    write_words(stdout, lent.mark);
+    write_words(stdout, lent.drawers);
 }

@@ -19,13 +19,9 @@ use Rattle.repeats.specs.Inner.{hashes, hash_base, hash_room, hash_from, hash_of
 -- Numbers by their offsets
 
 -- the number at the k-th offset, as the code reads it
-module _ (s a : List ℕ) (k x : ℕ) (is : x ≡ get_or a k 0) where
-  pub entry_inside : (m : ℕ) → EntriesInside s a m → k < m → next_place s x ≤ length s
-  entry_inside m p u = rw is (p.inside k u)
-
-  pub entry_read : (n : List ℕ) → n ≡ number_here s x → n ≡ entry_of s a k
-  unfolding entry_of
-  entry_read n e = rw (← is) e
+pub entry_read : (s a : List ℕ) (k : ℕ) → number_here s (get_or a k 0) ≡ entry_of s a k
+unfolding entry_of
+entry_read s a k = refl
 
 -- a table of offsets, the first k of them set down
 pub record Offsets (g : ℕ → ℕ) (a : List ℕ) (k : ℕ) : Type 0 where
@@ -247,9 +243,6 @@ module _ (f : ℕ → List ℕ) where
   pub once_none : distinct eq_list (first_entries f 0) ≡ true
   unfolding distinct from
   once_none = refl
-
-  pub once_all : (k m : ℕ) → k ≤ m → m ≤ k → distinct eq_list (first_entries f k) ≡ true → distinct eq_list (first_entries f m) ≡ true
-  once_all k m u v e = let q : m ≡ k = omega arith in rw q e
 
   -- whether the number at k is one of those before it
   module _ (k : ℕ) (b : Bool) (told : b ≡ is_repeat f k) where

@@ -1,12 +1,13 @@
 // Document 01, "no number stands twice", in a register and in a sheet: whether one of some numbers, each behind its length byte, repeats one before it.
 // A number is compared, byte for byte, with those alone that have its hash: equal numbers have equal hashes.
+// (Casts here are bounded, which the check proves: `try_from` would add a refusal that cannot come, no plainer.)
 #![tactic(auto)]
 
 ghost use Rattle.std.specs.Prelude.{◌≡◌, ◌+◌, ◌<◌, ◌≤◌, length};
 ghost use Rattle.ground.specs.Lists.{anyb, distinct, eq_list};
 ghost use Rattle.repeats.specs.Inner.{number_here, next_place, entry_of, first_entries, is_repeat, EntriesInside, hashes, hash_of, LeadsBack, LastHas, Hashed};
 
-use ground::{same, wide8, wide16};
+use ground::same;
 
 // "length, the number" in a slot, "a length byte and the number" in a sheet.
 pub const LENGTH_BYTES: usize = 1;
@@ -22,33 +23,25 @@ const HASH_BASE: usize = 263;
 
 const HASH_ROOM: usize = 0x1_0000_0000;
 
-// A long word as a number to count with.
-fn wide32(x: u32) -> usize
-    ensures { result ≡ x }
-{
-    x as usize
-}
-
 // The number at a place, as the stretch that holds it.
 pub fn number_here(s: &[u8], at: usize) -> &[u8]
     requires { next_place s.now at ≤ length s.now }
     ensures { result.now ≡ number_here s.now at }
 {
     let start = at + LENGTH_BYTES;
-    let end = start + wide8(s[at]);
+    let end = start + usize::from(s[at]);
     &s[start..end]
 }
 
 // A number's hash.
+#[tactic(auto, using(crate::proofs::Repeats::hash_on, crate::proofs::Repeats::hash_end), unfolding(crate::specs::Inner::hash_of))]
 fn hash(num: &[u8]) -> usize
-    ensures fact_1 { result ≡ hash_of num.now }
-    ensures fact_2 { result < hashes }
+    ensures value { result ≡ hash_of num.now }
+    ensures bounded { result < hashes }
 {
     let mut h = 0;
-    let mut i = 0;
-    while i < num.len() {
-        h = (h * HASH_BASE + wide8(num[i])) % HASH_ROOM;
-        i += 1;
+    for b in num {
+        h = (h * HASH_BASE + usize::from(*b)) % HASH_ROOM;
     }
     h % HASHES
 }
@@ -61,23 +54,24 @@ fn is_among(
     num: &[u8],
     e: usize,
 ) -> bool
-    requires fact_1 { EntriesInside s.now at.now e }
-    requires fact_2 { LeadsBack (entry_of s.now at.now) earlier.now e }
-    requires fact_3 { LastHas (entry_of s.now at.now) (hash_of num.now) e }
+    requires inside { EntriesInside s.now at.now e }
+    requires leads { LeadsBack (entry_of s.now at.now) earlier.now e }
+    requires last { LastHas (entry_of s.now at.now) (hash_of num.now) e }
     ensures { result ≡ anyb (eq_list num.now) (first_entries (entry_of s.now at.now) e) }
 {
     let mut k = e;
     while 0 < k {
         let j = k - 1;
-        if same(num, number_here(s, wide32(at[j]))) {
+        if same(num, number_here(s, at[j] as usize)) {
             return true;
         }
-        k = wide16(earlier[j]);
+        k = usize::from(earlier[j]);
     }
     false
 }
 
 // Whether the number at the k-th offset, counted from 0, is one of the k before it. It is entered behind them.
+// (Both tables are lent as they are: a struct of two fixed arrays, made by two functions and asked by this one, is no plainer.)
 pub fn repeats_earlier(
     s: &[u8],
     at: &[u32; MOST_ENTRIES],
@@ -90,10 +84,10 @@ pub fn repeats_earlier(
     ensures fact_1 { result ≡ is_repeat (entry_of s.now at.now) k }
     ensures fact_2 { Hashed (entry_of s.now at.now) lasts.new earlier.new (k + 1) }
 {
-    let num = number_here(s, wide32(at[k]));
+    let num = number_here(s, at[k] as usize);
     let h = hash(num);
     let last = lasts[h];
-    let again = is_among(s, at, earlier, num, wide16(last));
+    let again = is_among(s, at, earlier, num, usize::from(last));
     earlier[k] = last;
     lasts[h] = (k + 1) as u16;
     again
@@ -106,12 +100,10 @@ pub fn none_repeats(s: &[u8], at: &[u32; MOST_ENTRIES], m: usize) -> bool
 {
     let mut lasts = [0; HASHES];
     let mut earlier = [0; MOST_ENTRIES];
-    let mut k = 0;
-    while k < m {
+    for k in 0..m {
         if repeats_earlier(s, at, k, &mut lasts, &mut earlier) {
             return false;
         }
-        k += 1;
     }
     true
 }

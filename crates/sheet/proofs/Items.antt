@@ -41,20 +41,6 @@ module _ (size : List ℕ → ℕ) (good : List ℕ → Bool) (bs : List ℕ) (o
       go true l false g h = absurd (f h)
       go false l y g h = absurd (f h)
 
-  pub place_stays : (r : ℕ) → 0 < size bs → r ≡ place_of (one size good bs o) → r ≡ o → one size good bs o ≡ fault o
-  unfolding place_of one
-  place_stays r p e f = go (leb (size bs) (length bs)) refl (good (take (size bs) bs)) refl e
-    where
-      go : (x : Bool) → leb (size bs) (length bs) ≡ x → (y : Bool) → good (take (size bs) bs) ≡ y →
-          r ≡ place_of (cond (x && y) (item (take (size bs) bs) (drop (size bs) bs) (o + size bs)) (fault o)) → one size good bs o ≡ fault o
-      go true l true g h = absurd (omega arith)
-      go true l false g h = one_bad size good bs o g
-      go false l y g h = one_short (leb-false (size bs) (length bs) l)
-
-pub place_fault : (o : ℕ) → place_of (fault o) ≡ o
-unfolding place_of
-place_fault o = refl
-
 pub place_item : (a bs : List ℕ) (o : ℕ) → place_of (item a bs o) ≡ o
 unfolding place_of
 place_item a bs o = refl

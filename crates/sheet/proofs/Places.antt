@@ -1,9 +1,10 @@
 -- What stands in a sheet from a place on: bytes, numbers, and kit records with their lists.
 use mathlib.Core.Path.{◌≡◌, refl, ap, sym, ◌∙◌}
 use mathlib.Core.Bool.{Bool, true, false, cond}
+use Rattle.std.specs.Prelude.{Some, None}
 use mathlib.Core.List.{List, [], ◌∷◌, ◌++◌, append_assoc}
 use Prim.Native.Nat.{ℕ, zero, suc, ◌+◌, ◌-◌, ◌*◌, ◌≤◌, ◌<◌}
-use native.Mathlib.Nat.{add-zero, sub-zero, suc-mul}
+use native.Mathlib.Nat.{add-zero, suc-mul}
 use native.Mathlib.Numerals.{add-one}
 use native.Mathlib.Omega.{arith}
 use lib.ListN.{length, take, drop, get_or, set, replicate, length-drop, length-append, length-replicate}
@@ -115,25 +116,23 @@ module _ (w : ℕ) (s : List ℕ) (at : ℕ) where
   unfolding record_size
   size_at = rw (get_or-drop at s count_at 0)
 
-  pub end_cut : at ≤ length s → length s - at < lines_at + lines_size w s at → at ≡ record_end w s at
+  pub end_cut : at ≤ length s → length s - at < lines_at + lines_size w s at → None ≡ record_end w s at
   unfolding record_end
   end_cut h k = rw (lt-leb (record_size w (drop at s)) (length (drop at s)) (omega (arith, size_at, length-drop at s)))
 
-  pub end_whole : WholeAt w s at → at + (lines_at + lines_size w s at) ≡ record_end w s at
+  pub end_whole : WholeAt w s at → Some (at + record_size w (drop at s)) ≡ record_end w s at
   unfolding record_end
-  end_whole h =
-      rw (le-leb (record_size w (drop at s)) (length (drop at s)) (omega (arith, size_at, length-drop at s)))
-      (omega (arith, size_at))
+  end_whole h = rw (le-leb (record_size w (drop at s)) (length (drop at s)) (omega (arith, size_at, length-drop at s)))
 
-  module _ (r : ℕ) (e : r ≡ record_end w s at) (inside : at ≤ length s) where
-    pub end_moved : (r ≡ at → ⊥) → WholeAt w s at × (r ≡ at + record_size w (drop at s))
+  module _ (inside : at ≤ length s) where
+    pub end_moved : (r : ℕ) → Some r ≡ record_end w s at → WholeAt w s at × (r ≡ at + record_size w (drop at s))
     unfolding record_end
-    end_moved f = go (leb (record_size w (drop at s)) (length (drop at s))) refl e
+    end_moved r e = go (leb (record_size w (drop at s)) (length (drop at s))) refl e
       where
         go : (x : Bool) → leb (record_size w (drop at s)) (length (drop at s)) ≡ x →
-            r ≡ cond x (at + record_size w (drop at s)) at → WholeAt w s at × (r ≡ at + record_size w (drop at s))
-        go true l g = (omega (arith, leb-true (record_size w (drop at s)) (length (drop at s)) l, size_at, length-drop at s), g)
-        go false l g = absurd (f g)
+            Some r ≡ cond x (Some (at + record_size w (drop at s))) None → WholeAt w s at × (r ≡ at + record_size w (drop at s))
+        go true l g = (omega (arith, leb-true (record_size w (drop at s)) (length (drop at s)) l, size_at, length-drop at s), cc)
+        go false l g = absurd (let z : ◌≡◌ {A = Bool} true false = cc in cc)
 
   pub list_is : list_in w (record_at w s at) ≡ list_at w s at
   unfolding list_in
@@ -161,9 +160,9 @@ abbrev pub words_of : List ℕ → List ℕ
 words_of xs = laid (replicate record_words 0) 0 xs
 
 module _ (xs : List ℕ) where
-  pub words_part : length xs ≤ record_words → (n : ℕ) → length xs ≡ n → take (n - 0) (drop 0 (words_of xs)) ≡ xs
+  pub words_part : length xs ≤ record_words → (n : ℕ) → length xs ≡ n → take n (words_of xs) ≡ xs
   words_part few n e =
-      rw (sub-zero, laid_front (replicate record_words 0) xs (simp length-replicate few)) (take_at xs (drop (length xs) (replicate record_words 0)) n e)
+      rw (laid_front (replicate record_words 0) xs (simp length-replicate few)) (take_at xs (drop (length xs) (replicate record_words 0)) n e)
 
   -- two words more
   pub words_on : (i x y : ℕ) → i ≡ length xs → set (set (words_of xs) i x) (i + 1) y ≡ words_of (xs ++ (x ∷ y ∷ []))
@@ -176,5 +175,5 @@ module _ (xs : List ℕ) where
 
 -- of the words that were read, as many as it has are lent
 pub lent_list_lem : (w : ℕ) (s : List ℕ) (at : ℕ) {n : ℕ} {l : List ℕ} → n ≡ line_count s at * line_words → n ≤ record_words → l ≡ words_of (list_at w s at) →
-    take (n - 0) (drop 0 l) ≡ list_at w s at
+    take n l ≡ list_at w s at
 lent_list_lem w s at {n} e k f = rw f (words_part (list_at w s at) (omega (arith, list_long w s at)) n (omega (arith, list_long w s at)))

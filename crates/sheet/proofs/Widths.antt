@@ -1,15 +1,16 @@
 -- The version of so many parts, and the width of a place in it: what holds of one byte and of two holds of every width.
 use mathlib.Core.Path.{◌≡◌, refl}
 use mathlib.Core.Bool.{Bool, true, false, cond}
-use Prim.Native.Nat.{ℕ, zero, suc, ◌+◌, ◌*◌, ◌/◌, ◌^◌, ◌≤◌, ◌<◌}
-use native.Mathlib.Nat.{suc-mul, mul-le-mul_right}
+use Prim.Native.Nat.{ℕ, zero, suc, ◌*◌, ◌/◌, ◌^◌, ◌≤◌, ◌<◌}
 use native.Mathlib.Omega.{arith}
 use lib.Dec.{leb, eqb}
 use borrow.Author.Tests.{leb-true, leb-false, le-leb, eq-eqb}
 use Rattle.ground.specs.Limits.{byte_limit, most_parts}
 use Rattle.ground.specs.Lists.{anyb, every}
 use Rattle.sheet.specs.Bytes.{from_bytes, two}
-use Rattle.sheet.specs.Sheet.{most_narrow, version, line_bytes}
+use Rattle.sheet.specs.Sheet.{most_narrow, version, bytes_of, line_bytes}
+use Rattle.sheet.specs.declared.Width as places
+use Rattle.sheet.specs.declared.Width.TheVariants.{Narrow, Wide}
 use Rattle.sheet.specs.Inner.{widest, Width}
 use Rattle.sheet.specs.Reading.{versions, is_version, good_part_count}
 use Rattle.sheet.proofs.Numbers.{two_back}
@@ -27,18 +28,16 @@ by_width P {w} h a b = go w h.some_byte h.few_bytes
     go (suc (suc zero)) k l = b
     go (suc (suc (suc w))) k l = absurd (omega arith)
 
+pub some_width : (w : places.Width) → Width (bytes_of w)
+some_width Narrow = record { some_byte = omega arith; few_bytes = omega arith }
+some_width Wide = record { some_byte = omega arith; few_bytes = omega arith }
+
 -- so many lines take so many bytes, and so many bytes are so many lines
 pub lines_over : {w : ℕ} → Width w → (n : ℕ) → n * line_bytes w / line_bytes w ≡ n
 lines_over h n = by_width (λ (w : ℕ). n * line_bytes w / line_bytes w ≡ n) h (omega arith) (omega arith)
 
 pub lines_most : {w : ℕ} → Width w → (n m : ℕ) → n ≤ m → n * line_bytes w ≤ 3 * m
 lines_most h n m k = by_width (λ (w : ℕ). n * line_bytes w ≤ 3 * m) h (omega arith) (omega arith)
-
--- a line ends before the next begins
-pub line_inside : (w : ℕ) {k n : ℕ} → k < n → k * line_bytes w + line_bytes w ≤ n * line_bytes w
-line_inside w {k} {n} h =
-    let m : suc k * line_bytes w ≤ n * line_bytes w = mul-le-mul_right (line_bytes w) (omega arith) in
-    omega (arith, suc-mul k (line_bytes w))
 
 ------------------------------------------------------------------------
 -- Versions

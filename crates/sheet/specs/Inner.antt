@@ -1,5 +1,6 @@
 -- Inner: no promise of the house rests on what stands here; inner contracts and proofs speak by it.
 -- Contents that fit the format, the format's sizes, and what stands in a sheet from a place on.
+use Rattle.std.specs.Prelude.{Option, Some, None}
 use Rattle.std.specs.Prelude.{Bool, true, ◌&&◌, cond, List, [], ◌∷◌, ◌++◌, ℕ, zero, suc, ◌+◌, ◌*◌, ◌/◌, ◌≤◌, ◌<◌, length, take, drop, get_or, leb, ltb, eqb}
 use Rattle.ground.specs.Lists.{allb, every, distinct, eq_list}
 use Rattle.ground.specs.Limits.{most_parts, two_limit}
@@ -96,12 +97,12 @@ end_at s j (suc k) = end_at s (next_place s j) k
 ------------------------------------------------------------------------
 -- Kit records in a sheet
 
--- the record at a place, where places take w bytes: its bytes, and where it ends; where it is cut short, where it starts
+-- the record at a place, where places take w bytes: its bytes, and where it ends; none where it is cut short
 abbrev pub record_at : ℕ → List ℕ → ℕ → List ℕ
 record_at w s at = take (record_size w (drop at s)) (drop at s)
 
-unfoldable pub record_end : ℕ → List ℕ → ℕ → ℕ
-record_end w s at = cond (leb (record_size w (drop at s)) (length (drop at s))) (at + record_size w (drop at s)) at
+unfoldable pub record_end : ℕ → List ℕ → ℕ → Option ℕ
+record_end w s at = cond (leb (record_size w (drop at s)) (length (drop at s))) (Some (at + record_size w (drop at s))) None
 
 -- how many lines it has, and the bytes of these; its list
 abbrev pub line_count : List ℕ → ℕ → ℕ

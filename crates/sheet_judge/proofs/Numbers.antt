@@ -16,7 +16,7 @@ use Rattle.sheet.specs.Reading.{Item, item, fault, onward, one, number_size, new
 use Rattle.sheet.specs.Inner.{head_bytes, place_of, numbers_at, end_at}
 use Rattle.sheet.proofs.Places.{end_last, numbers_at_last, numbers_many, size_here, size_some, read_here}
 use Rattle.sheet.proofs.Written.{one_bad, numbers_all}
-use Rattle.sheet.proofs.Items.{one_short, one_ok, place_fault, place_item, place_moved, place_stays, Moved, all_faulty, all_next}
+use Rattle.sheet.proofs.Items.{one_short, one_ok, place_item, place_moved, Moved, all_faulty, all_next}
 use Rattle.sheet_judge.specs.Inner.{Numbered}
 
 any_cons : (p : List ℕ → Bool) (x : List ℕ) (xs : List (List ℕ)) → anyb p (x ∷ xs) ≡ (p x || anyb p xs)
@@ -38,23 +38,19 @@ module _ (s : List ℕ) (at : ℕ) where
     unfolding new_number
     new_here = rw (read_here s at)
 
-    pub number_none : length s ≤ at → at ≡ place_of this
-    number_none h =
-        sym (ap place_of (one_short number_size (new_number seen) (drop at s) at (omega (arith, length-drop at s, size_some s at))) ∙ place_fault
-        at)
+    pub number_none : length s ≤ at → this ≡ fault at
+    number_none h = one_short number_size (new_number seen) (drop at s) at (omega (arith, length-drop at s, size_some s at))
 
-    pub number_cut : at < length s → length s - at < 1 + get_or s at 0 → at ≡ place_of this
-    number_cut h k =
-        sym (ap place_of (one_short number_size (new_number seen) (drop at s) at (omega (arith, length-drop at s, size_here s at))) ∙ place_fault
-        at)
+    pub number_cut : length s - at < 1 + get_or s at 0 → this ≡ fault at
+    number_cut k = one_short number_size (new_number seen) (drop at s) at (omega (arith, length-drop at s, size_here s at))
 
-    pub number_bad : good_number (number_here s at) ≡ false → at ≡ place_of this
+    pub number_bad : good_number (number_here s at) ≡ false → this ≡ fault at
     unfolding every
-    number_bad g = sym (ap place_of (one_bad number_size (new_number seen) (drop at s) at (new_here ∙ rw g)) ∙ place_fault at)
+    number_bad g = one_bad number_size (new_number seen) (drop at s) at (new_here ∙ rw g)
 
-    pub number_twice : good_number (number_here s at) ≡ true → anyb (eq_list (number_here s at)) seen ≡ true → at ≡ place_of this
+    pub number_twice : good_number (number_here s at) ≡ true → anyb (eq_list (number_here s at)) seen ≡ true → this ≡ fault at
     unfolding every
-    number_twice g h = sym (ap place_of (one_bad number_size (new_number seen) (drop at s) at (new_here ∙ rw (g, h))) ∙ place_fault at)
+    number_twice g h = one_bad number_size (new_number seen) (drop at s) at (new_here ∙ rw (g, h))
 
     pub number_taken : at + 1 + get_or s at 0 ≤ length s → good_number (number_here s at) ≡ true →
         anyb (eq_list (number_here s at)) seen ≡ false → at + 1 + get_or s at 0 ≡ place_of this
@@ -134,14 +130,13 @@ module _ {s : List ℕ} {n k at : ℕ} (N : Numbering s n k at) where
         goes = N.goes ∙ rw (z, numbers_all.ends N.seen (drop at s) at, ahead_item (numbers_at s head_bytes k) [] (drop at s) at, append-nil);
       }
 
-  module _ (h : k < n) (r : ℕ) (p : r ≡ place_of next) where
-    pub numbering_fault : r ≡ at → numbers n [] (drop head_bytes s) head_bytes ≡ fault at
-    numbering_fault e =
+  module _ (h : k < n) where
+    pub numbering_fault : next ≡ fault at → numbers n [] (drop head_bytes s) head_bytes ≡ fault at
+    numbering_fault f =
         let z : n - k ≡ suc (n - (k + 1)) = omega arith in
-        let f = place_stays number_size (new_number N.seen) (drop at s) at r (size_some s at) p e in
         N.goes ∙ rw (z, all_faulty numbers_all (n - (k + 1)) N.seen (drop at s) at f) (ahead_fault (numbers_at s head_bytes k) at)
 
-    module _ (f : (r ≡ at → ⊥)) where
+    module _ (r : ℕ) (p : r ≡ place_of next) (f : (r ≡ at → ⊥)) where
       M : Moved number_size (new_number N.seen) (drop at s) at r
       M = place_moved number_size (new_number N.seen) (drop at s) at r p f
 

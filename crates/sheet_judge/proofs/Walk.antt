@@ -28,8 +28,8 @@ use Rattle.sheet.proofs.Laws.{new_kits_rise}
 use Rattle.sheet.proofs.Written.{any_good}
 use Rattle.sheet.proofs.Items.{one_ok, bytes_short, bytes_ok}
 use Rattle.sheet.specs.Inner.{record_at, list_at, WholeAt}
-use Rattle.sheet_judge.specs.Inner.{judged_of, run_told, behind_numbers, Numbered, Tags, Latest, growth}
-use Rattle.sheet_judge.specs.declared.Judged.TheVariants.{Fault, Runs}
+use Rattle.sheet_judge.specs.Inner.{Judged, judged_of, run_told, behind_numbers, Numbered, Tags, Latest, growth}
+use Rattle.std.specs.Prelude.{Ok, Err}
 use Rattle.sheet_judge.specs.declared.Run.{Run}
 use Rattle.sheet_judge.proofs.Growth.{growth_beginnings, last_row_of, growth_last, last_row}
 use Rattle.sheet.proofs.Places.{size_at, tag_is, row_is}
@@ -153,10 +153,11 @@ module _ {w : ℕ} {s : List ℕ} {from parts n : ℕ} {marks : List ℕ} {prev 
 
   -- behind the last that is announced
   pub judging_all : Bytes (drop from s) → {m : ℕ} → n ≡ m → n ≡ k →
-      record { kept = k; nodes = nodes; end = at } ≡ run_told (records (place_bytes parts) m parts [] (drop from s) from)
+      record { kept = n; nodes = nodes; end = at } ≡ run_told (records (place_bytes parts) m parts [] (drop from s) from)
   judging_all b q e =
       let z : n - k ≡ 0 = omega arith in
-      stopped b q (rw z (records_none w parts J.seen (drop at s) at))
+      let all = stopped b q (rw z (records_none w parts J.seen (drop at s) at)) in
+      rw (← e) at all
 
   -- one record more
   module _ (h : k < n) (there : WholeAt w s at) (good : new_kit w parts J.seen (record_at w s at) ≡ true) (row : Row)
@@ -212,24 +213,27 @@ module _ {w : ℕ} {s : List ℕ} {from parts n : ℕ} {marks : List ℕ} {prev 
 
 -- the kit count, and what follows it
 module _ (s : List ℕ) (at : ℕ) (ps : List (List ℕ)) where
-  pub count_short : at ≤ length s → length s - at < 2 → Fault at ≡ judged_of (behind_numbers ps (drop at s) at)
+  pub count_short : at ≤ length s → length s - at < 2 → Err at ≡ judged_of (behind_numbers ps (drop at s) at)
   unfolding judged_of behind_numbers onward
   count_short h k = let e = bytes_short two_bytes any_two s at h k in rw e
 
   pub count_read : (sheet : Sheet) (run : Run) → at + 2 ≤ length s → sheet.parts ≡ length ps → sheet.kits ≡ from_bytes (take two_bytes (drop at s)) →
       run ≡ run_told (records (place_bytes sheet.parts) sheet.kits sheet.parts [] (drop (at + 2) s) (at + 2)) →
-      Runs sheet run ≡ judged_of (behind_numbers ps (drop at s) at)
+      Ok (record { sheet = sheet; run = run }) ≡ judged_of (behind_numbers ps (drop at s) at)
   unfolding behind_numbers onward judged_of run_told salvaged run_of
   count_read sheet run h e f g =
       let i = bytes_ok two_bytes any_two s at h (any_good (take two_bytes (drop at s))) in
-      rw i (ap₂ Runs (same_sheet e f) (rw (e, f) at g))
+      rw i (ap₂ told (same_sheet e f) (rw (e, f) at g))
     where
+      told : Sheet → Run → Judged
+      told sheet run = Ok (record { sheet = sheet; run = run })
+
       same_sheet : {n m : ℕ} → sheet.parts ≡ n → sheet.kits ≡ m → sheet ≡ record { parts = n; kits = m }
       same_sheet p q = λ t. record { parts = p t; kits = q t }
 
 -- the numbers, and what follows them
 pub numbers_fault : (s : List ℕ) (n o : ℕ) → numbers n [] (drop head_bytes s) head_bytes ≡ fault o →
-    Fault o ≡ judged_of (onward (numbers n [] (drop head_bytes s) head_bytes) behind_numbers)
+    Err o ≡ judged_of (onward (numbers n [] (drop head_bytes s) head_bytes) behind_numbers)
 unfolding judged_of onward
 numbers_fault s n o e = rw e
 
@@ -238,6 +242,6 @@ pub numbers_read : (s : List ℕ) (n at : ℕ) (N : Numbered s n at) →
 unfolding onward
 numbers_read s n at N = let e = N.goes in rw e
 
-pub judged_fault : (s : List ℕ) (o : ℕ) → salvage s ≡ fault o → Fault o ≡ judged_of (salvage s)
+pub judged_fault : (s : List ℕ) (o : ℕ) → salvage s ≡ fault o → Err o ≡ judged_of (salvage s)
 unfolding judged_of
 judged_fault s o e = rw e

@@ -1,6 +1,6 @@
 -- Inner: no promise of the house rests on what stands here; inner contracts and proofs speak by it.
 -- What the judge of a sheet answers, and what each of its functions says of the sheet from a place on.
-use Rattle.std.specs.Prelude.{◌≡◌, Bool, true, ◌&&◌, not, List, [], ◌∷◌, ℕ, ◌+◌, ◌-◌, ◌≤◌, ◌<◌, length, drop, get_or, leb}
+use Rattle.std.specs.Prelude.{◌≡◌, Option, Some, None, Result, Ok, Err, Bool, true, ◌&&◌, not, List, [], ◌∷◌, ℕ, ◌+◌, ◌-◌, ◌≤◌, ◌<◌, length, drop, get_or, leb}
 use Rattle.ground.specs.Limits.{most_parts, two_limit}
 use Rattle.ground.specs.Lists.{anyb, is_zero}
 use Rattle.repeats.specs.Inner.{number_here, next_place}
@@ -10,16 +10,13 @@ use Rattle.kits.specs.Inner.{agreed}
 use Rattle.kits.specs.declared.Row.{Row}
 use Rattle.nodes.specs.Held.{Kit, all_beginnings}
 use Rattle.sheet.specs.Bytes.{from_bytes, two_bytes}
-use Rattle.sheet.specs.Inner.{head_bytes, place_of}
+use Rattle.sheet.specs.Inner.{head_bytes}
 use Rattle.sheet.specs.Reading.{Item, item, fault, Reading, onward, one, bytes, any_two, number_size, new_number, numbers, has_tag, Front, run_of}
 use Rattle.sheet.specs.Reading.{Salvage, salvaged, salvage}
 use Rattle.sheet.specs.Reading as paper
 use Rattle.sheet.specs.declared.Sheet.{Sheet}
-use Rattle.sheet_judge.specs.declared.Judged.{Judged}
-use Rattle.sheet_judge.specs.declared.Judged.TheVariants.{Fault, Runs}
+use Rattle.sheet_judge.specs.declared.Found.{Found}
 use Rattle.sheet_judge.specs.declared.Run.{Run}
-use Rattle.sheet_judge.specs.declared.Read.{Read}
-use Rattle.sheet_judge.specs.declared.Read.TheVariants as read
 
 -- the counts that a sheet announces
 abbrev pub sheet_of : Salvage → Sheet
@@ -33,9 +30,12 @@ unfoldable pub run_told : paper.Run → Run
 run_told r = run_to r.kits r.offset
 
 -- the offset of the first faulty item; or the counts, and the run of records
+abbrev pub Judged : Type 0
+Judged = Result Found ℕ
+
 unfoldable pub judged_of : Item Salvage → Judged
-judged_of (item x bs o) = Runs (sheet_of x) (run_to x.kept.kits x.stopped)
-judged_of (fault o) = Fault o
+judged_of (item x bs o) = Ok (record { sheet = sheet_of x; run = run_to x.kept.kits x.stopped })
+judged_of (fault o) = Err o
 
 -- what is kept behind a front
 abbrev pub behind_front : Front → Reading Salvage
@@ -51,9 +51,9 @@ pub record Headed (s : List ℕ) (n : ℕ) : Type 0 where
   pub few : n ≤ most_parts
   pub goes : salvage s ≡ onward (numbers n [] (drop head_bytes s) head_bytes) behind_numbers
 
-abbrev pub head_says : List ℕ → Read → Type 0
-head_says s (read.Fault o) = salvage s ≡ fault o
-head_says s (read.Done n) = Headed s n
+abbrev pub head_says : List ℕ → Result ℕ ℕ → Type 0
+head_says s (Err o) = salvage s ≡ fault o
+head_says s (Ok n) = Headed s n
 
 -- n numbers were read: where they end, or the first fault
 pub record Numbered (s : List ℕ) (n at : ℕ) : Type 0 where
@@ -62,14 +62,19 @@ pub record Numbered (s : List ℕ) (n at : ℕ) : Type 0 where
   pub inside : at ≤ length s
   pub goes : numbers n [] (drop head_bytes s) head_bytes ≡ item ns (drop at s) at
 
-abbrev pub numbers_say : List ℕ → ℕ → Read → Type 0
-numbers_say s n (read.Fault o) = numbers n [] (drop head_bytes s) head_bytes ≡ fault o
-numbers_say s n (read.Done at) = Numbered s n at
+abbrev pub numbers_say : List ℕ → ℕ → Result ℕ ℕ → Type 0
+numbers_say s n (Err o) = numbers n [] (drop head_bytes s) head_bytes ≡ fault o
+numbers_say s n (Ok at) = Numbered s n at
 
--- where the number at a place ends, a good one; where it is cut short or not good, where it starts
-pub record NumberEnds (s : List ℕ) (at r : ℕ) : Type 0 where
-  pub stays : r ≡ at → (seen : List (List ℕ)) → at ≡ place_of (one number_size (new_number seen) (drop at s) at)
-  pub moves : (r ≡ at → ⊥) → (good_number (number_here s at) ≡ true) × (next_place s at ≤ length s) × (r ≡ next_place s at)
+-- where the number at a place ends, a good one; none where it is cut short or not good
+pub record GoodNumber (s : List ℕ) (at r : ℕ) : Type 0 where
+  pub good : good_number (number_here s at) ≡ true
+  pub inside : next_place s at ≤ length s
+  pub ends : r ≡ next_place s at
+
+abbrev pub NumberEnds : List ℕ → ℕ → Option ℕ → Type 0
+NumberEnds s at None = (seen : List (List ℕ)) → one number_size (new_number seen) (drop at s) at ≡ fault at
+NumberEnds s at (Some r) = GoodNumber s at r
 
 -- the lines of a list obey the rules, with n parts
 unfoldable pub good_lines : ℕ → List ℕ → Bool

@@ -1,4 +1,5 @@
 -- The first of the kits read, which alone can be empty: which of them have a unit where it is, and where it is not.
+use Rattle.std.specs.Prelude.{Some}
 use mathlib.Core.Path.{◌≡◌, refl, ap, sym, ◌∙◌}
 use mathlib.Core.Bool.{Bool, true, false, ◌&&◌, cond}
 use mathlib.Core.List.{List, [], ◌∷◌}
@@ -19,8 +20,8 @@ use Rattle.nodes.proofs.Lists.{never}
 use Rattle.nodes.proofs.Units.{is_some_unit, no_unit, units_beginnings}
 use Rattle.index_insert.specs.Enter.{enter_all}
 use Rattle.sheet.specs.Reading.{record_size, kit_in}
-use Rattle.sheet.specs.Inner.{record_at, record_end, list_at, WholeAt}
-use Rattle.sheet.proofs.Places.{size_at, end_whole, row_is}
+use Rattle.sheet.specs.Inner.{record_at, list_at, WholeAt, record_end}
+use Rattle.sheet.proofs.Places.{row_is, end_whole}
 use Rattle.sheet.proofs.Emptied.{first_without, good_with_units, unlike_with_units, rising_with_units}
 use Rattle.sheet_read.specs.Inner.{kits_read, empty_first, KitsStand}
 use Rattle.sheet_read.proofs.Kits.{Filling, kits_step, kits_none, end_step, filling_start, record_whole, units_short}
@@ -34,14 +35,6 @@ kits_many w s at (suc m) = ap suc (kits_many w s (at + record_size w (drop at s)
 pub entered_are : (w : ℕ) (s : List ℕ) (from n : ℕ) (ks : List Kit) (Z : List ℕ) {M : List ℕ} → ks ≡ kits_read w s from n →
     M ≡ enter_all Z (kits_read w s from n) → (n ≡ length ks) × (M ≡ enter_all Z ks)
 entered_are w s from n ks Z e h = (sym (ap length e ∙ kits_many w s from n), h ∙ ap (enter_all Z) (sym e))
-
--- whether the first is there, and empty: as it is tested
-pub none_tested : (w : ℕ) (s : List ℕ) (at m : ℕ) → m ≡ 0 → false ≡ empty_first w s at m
-none_tested w s at m e = rw (le-ltb 0 m (omega arith))
-
-pub first_tested : (w : ℕ) (s : List ℕ) (at m : ℕ) {row : Row} → 0 < m → row ≡ fixed_row (units (list_at w s at)) →
-    is_zero row.len ≡ empty_first w s at m
-first_tested w s at m h e = rw (lt-ltb 0 m h) (ap (λ (r : Row). is_zero r.len) e)
 
 module _ {w : ℕ} {s : List ℕ} {at m : ℕ} {N : List ℕ} (K : KitsStand w s at m N) where
   abbrev ks : List Kit
@@ -78,15 +71,14 @@ module _ {w : ℕ} {s : List ℕ} {at m : ℕ} {N : List ℕ} (K : KitsStand w s
     no_units = ap length (row_is w s at) ∙ eqb-true _ _ (and_right (ltb 0 m) (is_zero (length (units (list_at w s at)))) e)
 
     -- where its record ends
-    module _ {r : ℕ} (q : r ≡ record_end w s at) where
-      behind_first_lem : r ≡ at + record_size w (drop at s)
-      behind_first_lem = q ∙ sym (end_whole w s at (first_whole some_kit).0) ∙ (omega (arith, size_at w s at))
+    behind_first_lem : (r : ℕ) → Some r ≡ record_end w s at → r ≡ at + record_size w (drop at s)
+    behind_first_lem r q = let e = end_whole w s at (first_whole some_kit).0 in cc
 
+    module _ {r : ℕ} (q : r ≡ at + record_size w (drop at s)) where
       pub units_of_rest : with_units (kits_read w s at m) ≡ kits_read w s r (m - 1)
       units_of_rest =
-          let b = behind_first_lem in
           let n = no_unit first no_units in
-          rw b (units_read some_kit ∙ rw n refl)
+          rw q (units_read some_kit ∙ rw n refl)
 
       pub rest_stands : KitsStand w s r (m - 1) N
       rest_stands =
@@ -95,7 +87,7 @@ module _ {w : ℕ} {s : List ℕ} {at m : ℕ} {N : List ℕ} (K : KitsStand w s
             width = K.width;
             parts = K.parts;
             few = K.few;
-            inside = rw behind_first_lem (omega (arith, K.inside, rw sub-zero at (end_step w s at 0 m some_kit)));
+            inside = rw q (omega (arith, K.inside, rw sub-zero at (end_step w s at 0 m some_kit)));
             good = rw u at (good_with_units K.parts ks K.good);
             unlike = rw u at (unlike_with_units ks K.unlike);
             rises = rw u at (rising_with_units ks K.rises);

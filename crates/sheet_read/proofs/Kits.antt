@@ -24,9 +24,9 @@ use Rattle.index_append.proofs.Upcoming.{Upcoming, upcoming_start, upcoming_read
 use Rattle.index_counts.proofs.Filled.{Fit, Fillable, acceptable, fill_next}
 use Rattle.sheet.specs.Bytes.{from_bytes, two_bytes}
 use Rattle.sheet.specs.Reading.{record_size, kit_in}
-use Rattle.sheet.specs.Inner.{Width, record_at, record_end, list_at, WholeAt}
+use Rattle.sheet.specs.Inner.{Width, record_at, list_at, WholeAt}
 use Rattle.sheet.proofs.Fits.{rising_earlier}
-use Rattle.sheet.proofs.Places.{size_at, end_whole, tag_is, row_is}
+use Rattle.sheet.proofs.Places.{size_at, tag_is, row_is}
 use Rattle.sheet_read.specs.Inner.{kits_read, end_read, KitsStand}
 use Rattle.sheet_read.proofs.Listed.{kits_fillable}
 
@@ -137,9 +137,8 @@ module _ {w : ℕ} {s : List ℕ} {from m : ℕ} {Z nodes : List ℕ} {prev : Ro
           ((F.short, may_be), subst (Appendable nodes n (units_in prev)) (sym is_row) (upcoming_ready upcoming_now enters (tally_few F.rest.sound)))
 
       pub filling_on : {M : List ℕ} {n' : ℕ} → M ≡ enter nodes (units_in row) t → LastEntered M n' (units_in row) → (r : ℕ) →
-          r ≡ record_end w s at → Filling w s from m Z M row r n' (k + 1)
-      filling_on {M} {n'} p l r q =
-          let u : r ≡ place = q ∙ sym (end_whole w s at record_whole) ∙ (omega (arith, size_at w s at)) in
+          r ≡ record_size w (drop at s) → Filling w s from m Z M row (at + r) n' (k + 1)
+      filling_on {M} {n'} p l r u =
           let v : M ≡ enter nodes kit.row kit.tag = rw (is_row, is_tag) at p in
           rw u (record {
             width = F.width;

@@ -1,6 +1,7 @@
 -- What is kept of a sheet stands in it; and what taking it in promises.
 use mathlib.Core.Path.{◌≡◌, refl, ap, sym, subst, ◌∙◌}
-use mathlib.Core.Bool.{true}
+use mathlib.Core.Bool.{Bool, true, false}
+use Rattle.std.specs.Prelude.{Ok}
 use mathlib.Core.List.{List, [], ◌∷◌, ◌++◌, append_assoc}
 use Prim.Native.Nat.{ℕ, zero, suc, ◌+◌, ◌^◌, ◌≤◌, ◌<◌}
 use native.Mathlib.Nat.{add-zero}
@@ -25,7 +26,6 @@ use Rattle.sheet.specs.Sheet.{Contents, place_bytes, number_item, number_items, 
 use Rattle.sheet.specs.Inner.{good_kit, fits_sheet, head_bytes}
 use Rattle.sheet.specs.Reading.{Item, item, fault, record_size, kit_in, Salvage, salvage, rescued}
 use Rattle.sheet.specs.Calls.{room_refusals}
-use Rattle.sheet.specs.declared.Sheet.{Sheet}
 use Rattle.sheet.proofs.Widths.{version_width, version_room}
 use Rattle.sheet.proofs.Fits.{Fits, fitting_fits}
 use Rattle.sheet.proofs.Written.{kit_back, record_size_lem}
@@ -34,8 +34,7 @@ use Rattle.sheet.proofs.Torn.{Torn, torn}
 use Rattle.sheet.proofs.Laws.{fit_fitting}
 use Rattle.sheet.specs.Inner.{numbers_at, end_at, record_at}
 use Rattle.sheet_judge.specs.Inner.{judged_of, sheet_of, run_to}
-use Rattle.sheet_judge.specs.declared.Judged.TheVariants.{Runs}
-use Rattle.sheet_judge.specs.declared.Run.{Run}
+use Rattle.sheet_judge.specs.declared.Found.{Found}
 use Rattle.ground.specs.Tables.{tables}
 use Rattle.sheet_read.specs.Filling.{filling}
 use Rattle.sheet_read.specs.Inner.{taking_in, kits_read, end_read, NumbersStand, KitsStand}
@@ -216,43 +215,42 @@ module _ (c : Contents) (fits : fits_sheet c ≡ true) (m : ℕ) (rest : List �
       }
 
 -- A sheet without a fault up to its kit count, as the judge tells it
-pub record Salvageable (s : List ℕ) (sheet : Sheet) (run : Run) : Type 0 where
+pub record Salvageable (s : List ℕ) (f : Found) : Type 0 where
   pub saved : Salvage
   pub rest : List ℕ
   pub behind : ℕ
   pub read : salvage s ≡ item saved rest behind
-  pub parts : sheet.parts ≡ length saved.kept.parts
-  pub announced : sheet.kits ≡ saved.announced
-  pub kits : run.kept ≡ length saved.kept.kits
-  pub nodes : run.nodes ≡ nodes_needed saved.kept
-  pub end : run.end ≡ saved.stopped
+  pub parts : f.sheet.parts ≡ length saved.kept.parts
+  pub announced : f.sheet.kits ≡ saved.announced
+  pub kits : f.run.kept ≡ length saved.kept.kits
+  pub nodes : f.run.nodes ≡ nodes_needed saved.kept
+  pub end : f.run.end ≡ saved.stopped
 
-pub salvageable : (s : List ℕ) (sheet : Sheet) (run : Run) → Runs sheet run ≡ judged_of (salvage s) → Salvageable s sheet run
+pub salvageable : (s : List ℕ) (f : Found) → Ok f ≡ judged_of (salvage s) → Salvageable s f
 unfolding judged_of
-salvageable s sheet run e = go (salvage s) refl e
+salvageable s f e = go (salvage s) refl e
   where
-    go : (m : Item Salvage) → salvage s ≡ m → Runs sheet run ≡ judged_of m → Salvageable s sheet run
-    go (item x bs o) d f =
-        let q : sheet ≡ sheet_of x = cc in
-        let p : run ≡ run_to x.kept.kits x.stopped = cc in
+    go : (m : Item Salvage) → salvage s ≡ m → Ok f ≡ judged_of m → Salvageable s f
+    go (item x bs o) d q =
+        let p : f ≡ record { sheet = sheet_of x; run = run_to x.kept.kits x.stopped } = cc in
         record {
           saved = x;
           rest = bs;
           behind = o;
           read = d;
-          parts = ap (λ (y : Sheet). y.parts) q;
-          announced = ap (λ (y : Sheet). y.kits) q;
-          kits = ap (λ (y : Run). y.kept) p;
-          nodes = ap (λ (y : Run). y.nodes) p;
-          end = ap (λ (y : Run). y.end) p;
+          parts = ap (λ (y : Found). y.sheet.parts) p;
+          announced = ap (λ (y : Found). y.sheet.kits) p;
+          kits = ap (λ (y : Found). y.run.kept) p;
+          nodes = ap (λ (y : Found). y.run.nodes) p;
+          end = ap (λ (y : Found). y.run.end) p;
         }
-    go (fault o) d f = absurd (let z : ◌≡◌ {A = ℕ} 0 1 = cc in omega arith)
+    go (fault o) d q = absurd (let z : ◌≡◌ {A = Bool} true false = cc in cc)
 
-pub is_torn : {s : List ℕ} {sheet : Sheet} {run : Run} (F : Salvageable s sheet run) → Bytes s → (k : ℕ) × Torn s F.saved k F.rest
+pub is_torn : {s : List ℕ} {f : Found} (F : Salvageable s f) → Bytes s → (k : ℕ) × Torn s F.saved k F.rest
 is_torn {s = s} F b = torn s b F.saved F.rest F.behind F.read
 
 -- What taking it in promises
-module _ {s : List ℕ} {sheet : Sheet} {run : Run} (F : Salvageable s sheet run) (R N : List ℕ) where
+module _ {s : List ℕ} {f : Found} (F : Salvageable s f) (R N : List ℕ) where
   abbrev c : Contents
   c = F.saved.kept
 
@@ -260,7 +258,7 @@ module _ {s : List ℕ} {sheet : Sheet} {run : Run} (F : Salvageable s sheet run
   unfolding rescued
   what_kept = let e = F.read in rw e
 
-  pub taking_slots : (n : ℕ) → n ≡ sheet.parts → slot_count R < n →
+  pub taking_slots : (n : ℕ) → n ≡ f.sheet.parts → slot_count R < n →
       Promise (taking_in (rescued (salvage s)).kept (tables R N)) (tables R N) (refused 12 n) (tables R N)
   unfolding taking_in room_refusals answer decide
   taking_slots n e h =
@@ -268,18 +266,18 @@ module _ {s : List ℕ} {sheet : Sheet} {run : Run} (F : Salvageable s sheet run
       let l = lt-ltb (slot_count R) (length c.parts) (omega (arith, F.parts)) in
       promise_refused (taking_in (rescued (salvage s)).kept (tables R N)) (tables R N) 12 n (rw (w, l) (ap (refused 12) (sym (e ∙ F.parts))))
 
-  pub taking_nodes : sheet.parts ≤ slot_count R → size N < run.nodes →
-      Promise (taking_in (rescued (salvage s)).kept (tables R N)) (tables R N) (refused 12 run.nodes) (tables R N)
+  pub taking_nodes : f.sheet.parts ≤ slot_count R → size N < f.run.nodes →
+      Promise (taking_in (rescued (salvage s)).kept (tables R N)) (tables R N) (refused 12 f.run.nodes) (tables R N)
   unfolding taking_in room_refusals answer decide
   taking_nodes slots h =
       let w = what_kept in
       let l = le-ltb (slot_count R) (length c.parts) (omega (arith, F.parts)) in
       let k = lt-ltb (size N) (nodes_needed c) (omega (arith, F.nodes)) in
-      promise_refused (taking_in (rescued (salvage s)).kept (tables R N)) (tables R N) 12 run.nodes
+      promise_refused (taking_in (rescued (salvage s)).kept (tables R N)) (tables R N) 12 f.run.nodes
       (rw (w, l, k) (ap (refused 12) (sym F.nodes)))
 
   -- with room for both: what stands in the sheet is what is kept
-  module _ (b : Bytes s) (n m : ℕ) (parts : n ≡ sheet.parts) (kits : m ≡ run.kept) (slots : n ≤ slot_count R) (nodes : run.nodes ≤ size N) where
+  module _ (b : Bytes s) (n m : ℕ) (parts : n ≡ f.sheet.parts) (kits : m ≡ f.run.kept) (slots : n ≤ slot_count R) (nodes : f.run.nodes ≤ size N) where
     again : torn_sheet F.saved.announced F.saved.kept F.rest ≡ s
     again = sym (is_torn F b).1.splits
 

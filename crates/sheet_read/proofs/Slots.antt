@@ -188,6 +188,3 @@ module _ {s : List ℕ} {n : ℕ} {R reg : List ℕ} {at k : ℕ} (E : Entering 
     ends = e ∙ ap (next_place s) E.ends ∙ sym (rw (add-one k) (end_last s head_bytes k));
     is = f ∙ (rw (E.is, E.ends) (slot_filled E.stands k h));
   }
-
-  pub entering_end : n ≤ k → (at ≡ end_at s head_bytes n) × (reg ≡ register_of (slot_count R) (numbers_at s head_bytes n))
-  entering_end h = let e : k ≡ n = omega (arith, E.most) in (rw (← e) E.ends, rw (← e) E.is)

@@ -4,8 +4,7 @@ use Rattle.std.specs.Prelude.{◌≡◌, Bool, true, ◌&&◌, List, [], ◌∷�
 use Rattle.ground.specs.Lists.{allb, distinct, is_zero}
 use Rattle.ground.specs.Limits.{most_parts}
 use Rattle.ground.specs.Calls.{Plan, plan, Promise}
-use Rattle.answers.specs.declared.Answer.{Answer}
-use Rattle.answers.specs.Answers.{reply}
+use Rattle.answers.specs.Answers.{Answer, reply}
 use Rattle.repeats.specs.Inner.{next_place}
 use Rattle.kits.specs.Kits.{units}
 use Rattle.register.specs.Number.{longest_number}

@@ -1,5 +1,6 @@
 // Document 01, "Write the sheet at the start of a lent output: bytes written". Each item is set down in the rest of the output, behind the last:
 // the tail of the output slice is lent on to the writer of each number or kit record. The bytes needed are counted first.
+// (Casts here are bounded, which the check proves: `try_from` would add a refusal that cannot come, no plainer.)
 #![tactic(auto)]
 
 ghost use Rattle.std.specs.Prelude.{◌≡◌, ◌+◌, ◌*◌, ◌<◌, ◌≤◌, length};
@@ -11,20 +12,21 @@ ghost use Rattle.ground.specs.Limits.{most_parts, byte_limit};
 ghost use Rattle.register.specs.Inner.{Ready, Short};
 ghost use Rattle.nodes.specs.Nodes.{parent, most_nodes};
 ghost use Rattle.nodes.specs.Inner.{Used, Shape, Sound};
-ghost use Rattle.sheet.specs.Sheet.{line_bytes, contents_of, encode};
+ghost use Rattle.sheet.specs.Sheet.{bytes_of, line_bytes, contents_of, encode};
 ghost use Rattle.sheet.specs.Calls.{writing_of};
-ghost use Rattle.sheet.specs.Inner.{Width, most_item, most_record};
+ghost use Rattle.sheet.specs.Inner.{most_item, most_record};
 ghost use Rattle.sheet_write.specs.Inner.{node_row, head_items, numbers_from, Counted, own_record, records_from, all_records};
 ghost use Rattle.sheet_write.specs.Inner.{no_line, end_item, with_unit, end_of, row_lines, Stands, EndsIn, Kept, end_line, Reached, StandsAbove};
 
-use answers::Answer;
-use ground::{copy_in, wide16};
+use answers::{Answer, Refusal};
+use ground::copy_in;
 use kits::MOST_UNITS;
 use nodes::{child_at, label_at, listed_count, next_at, tag_at};
 use register::{count_parts, number_at};
 use repeats::LENGTH_BYTES;
 use sheet::{
-    LINES_AT, QUANTITY_BYTES, Sheet, TWO_BYTES, place_bytes, put_kit, put_line, put_number, put_two,
+    LINES_AT, QUANTITY_BYTES, Sheet, TWO_BYTES, Width, place_bytes, put_kit, put_line, put_number,
+    put_two,
 };
 
 // The line that a row ends in: how many lines stand before it, its place and its quantity. In front of every row stands a line of
@@ -49,19 +51,19 @@ impl EndLine {
     }
 }
 
-// The lines of a row of 64 units at most, behind the root's.
+// The lines of a row of 64 units at most, behind the root's, in a fixed array, since there is no heap.
 const ROW_BYTES: usize = (TWO_BYTES + QUANTITY_BYTES) * (MOST_UNITS + 1);
 
 // What a row ends in with one unit more: the same line again, or the next.
+#[tactic(auto, using(crate::proofs::Carried::unit_again, crate::proofs::Carried::unit_new))]
 fn with_unit(end: EndLine, label: u16) -> EndLine
     requires { (end.at ≤ most_units) × (end.quantity ≤ most_units) }
     ensures { result ≡ with_unit end label }
 {
     if label == end.place {
         return EndLine {
-            at: end.at,
-            place: end.place,
             quantity: end.quantity + 1,
+            ..end
         };
     }
     EndLine {
@@ -72,23 +74,22 @@ fn with_unit(end: EndLine, label: u16) -> EndLine
 }
 
 // Sets a line down where it stands among the lines of its row.
-fn set_line(lines: &mut [u8], line: EndLine, w: usize)
-    requires fact_1 { (line.at * line_bytes w + line_bytes w ≤ length lines.old) × (line.quantity < byte_limit) }
-    requires fact_2 { Width w }
-    ensures { lines.new ≡ laid lines.old (line.at * line_bytes w) (end_item w line) }
+fn set_line(lines: &mut [u8], line: EndLine, w: Width)
+    requires { (line.at * line_bytes (bytes_of w) + line_bytes (bytes_of w) ≤ length lines.old) × (line.quantity < byte_limit) }
+    ensures { lines.new ≡ laid lines.old (line.at * line_bytes (bytes_of w)) (end_item (bytes_of w) line) }
 {
-    let at = line.at * (w + QUANTITY_BYTES);
+    let at = line.at * w.line_bytes();
     put_line(&mut lines[at..], line.place, line.quantity, w);
 }
 
-// The record of a node's own kit, where one ends there, from a place of the output on; `lines` are those of its row.
-fn put_own(out: &mut [u8], at: usize, nodes: &[u16], i: usize, lines: &[u8], w: usize) -> usize
-    requires fact_1 { Shape most_place nodes.now }
-    requires fact_2 { Used nodes.now i }
-    requires fact_3 { lines.now ≡ row_lines w nodes.now i }
-    requires fact_4 { Width w }
-    requires fact_5 { at + length (own_record w nodes.now i) ≤ length out.old }
-    ensures { Put out.old at (own_record w nodes.now i) result out.new }
+// The record of a node's own kit, where one ends there, from a place of the output on; `lines` are those of its row. (What it is given differs from
+// call to call, so there is no struct of it; nor in the functions below.)
+fn put_own(out: &mut [u8], at: usize, nodes: &[u16], i: usize, lines: &[u8], w: Width) -> usize
+    requires shape { Shape most_place nodes.now }
+    requires used { Used nodes.now i }
+    requires lines { lines.now ≡ row_lines (bytes_of w) nodes.now i }
+    requires room { at + length (own_record (bytes_of w) nodes.now i) ≤ length out.old }
+    ensures { Put out.old at (own_record (bytes_of w) nodes.now i) result out.new }
 {
     let tag = tag_at(nodes, i);
     if tag == 0 {
@@ -106,25 +107,24 @@ fn put_node(
     lines: &mut [u8],
     above: EndLine,
     end: EndLine,
-    w: usize,
+    w: Width,
 ) -> usize
-    requires fact_1 { EndsIn nodes.now i above end }
-    requires fact_2 { Width w }
-    requires fact_3 { Stands w lines.old (node_row nodes.now (parent nodes.now i)) }
-    requires fact_4 { at + length (own_record w nodes.now i) ≤ length out.old }
-    ensures fact_1 { Put out.old at (own_record w nodes.now i) result out.new }
-    ensures fact_2 { Stands w lines.new (node_row nodes.now i) }
-    ensures fact_3 { Kept (above.at * line_bytes w) lines.old lines.new }
+    requires ends { EndsIn nodes.now i above end }
+    requires stands { Stands (bytes_of w) lines.old (node_row nodes.now (parent nodes.now i)) }
+    requires room { at + length (own_record (bytes_of w) nodes.now i) ≤ length out.old }
+    ensures put { Put out.old at (own_record (bytes_of w) nodes.now i) result out.new }
+    ensures stands { Stands (bytes_of w) lines.new (node_row nodes.now i) }
+    ensures kept { Kept (above.at * line_bytes (bytes_of w)) lines.old lines.new }
 {
     set_line(lines, above, w);
     set_line(lines, end, w);
-    let line = w + QUANTITY_BYTES;
+    let line = w.line_bytes();
     let to = (end.at + 1) * line;
     put_own(out, at, nodes, i, &lines[line..to], w)
 }
 
 // The records of the kits on the chain that starts at a link, each node's own before those below it: in listing order. The row of the node above
-// ends in `quantity` of a place, at `line` among its lines; the others stand in `lines`. (Three numbers go down faster than a struct of them.)
+// ends in `quantity` of a place, at `line` among its lines; the others stand in `lines`. (Tried: three numbers go down faster than an `EndLine`.)
 fn put_kits(
     out: &mut [u8],
     at: usize,
@@ -134,15 +134,18 @@ fn put_kits(
     line: usize,
     place: u16,
     quantity: u16,
-    w: usize,
+    w: Width,
 ) -> usize
-    requires { (Reached nodes.now link (end_line line place quantity)) × ((StandsAbove w nodes.now link lines.old) × ((Width w) × (at + length (records_from w nodes.now link) ≤ length out.old))) }
-    ensures { (Put out.old at (records_from w nodes.now link) result out.new) × (Kept (line * line_bytes w) lines.old lines.new) }
+    requires reached { Reached nodes.now link (end_line line place quantity) }
+    requires stands { StandsAbove (bytes_of w) nodes.now link lines.old }
+    requires room { at + length (records_from (bytes_of w) nodes.now link) ≤ length out.old }
+    ensures put { Put out.old at (records_from (bytes_of w) nodes.now link) result out.new }
+    ensures kept { Kept (line * line_bytes (bytes_of w)) lines.old lines.new }
 {
     let above = EndLine {
         at: line,
-        place: place,
-        quantity: quantity,
+        place,
+        quantity,
     };
     let mut i = link;
     let mut to = at;
@@ -168,59 +171,54 @@ fn put_kits(
 
 // The numbers of n slots.
 fn put_numbers(out: &mut [u8], reg: &[u8], n: usize) -> usize
-    requires fact_1 { Short reg.now n }
-    requires fact_2 { length (numbers_from reg.now 0 n) ≤ length out.old }
+    requires short { Short reg.now n }
+    requires room { length (numbers_from reg.now 0 n) ≤ length out.old }
     ensures { Put out.old 0 (numbers_from reg.now 0 n) result out.new }
 {
     let mut at = 0;
-    let mut k = 0;
-    while k < n {
+    for k in 0..n {
         at += put_number(&mut out[at..], number_at(reg, k));
-        k += 1;
     }
     at
 }
 
 // How many bytes the numbers of n slots take.
 fn numbers_size(reg: &[u8], n: usize) -> usize
-    requires fact_1 { Short reg.now n }
-    requires fact_2 { n ≤ most_parts }
-    ensures fact_1 { result ≡ length (numbers_from reg.now 0 n) }
-    ensures fact_2 { result ≤ most_item * n }
+    requires short { Short reg.now n }
+    requires few { n ≤ most_parts }
+    ensures size { result ≡ length (numbers_from reg.now 0 n) }
+    ensures most { result ≤ most_item * n }
 {
     let mut total = 0;
-    let mut k = 0;
-    while k < n {
-        let num = number_at(reg, k);
-        total += LENGTH_BYTES + num.len();
-        k += 1;
+    for k in 0..n {
+        total += LENGTH_BYTES + number_at(reg, k).len();
     }
     total
 }
 
 // How many bytes a node's own record takes: with the root's line, all lines but the last take as many as without it all do.
-fn own_size(nodes: &[u16], i: usize, end: EndLine, w: usize) -> usize
-    requires fact_1 { Shape most_place nodes.now }
-    requires fact_2 { Used nodes.now i }
-    requires fact_3 { end ≡ end_of (node_row nodes.now i) }
-    requires fact_4 { Width w }
-    ensures { result ≡ length (own_record w nodes.now i) }
+fn own_size(nodes: &[u16], i: usize, end: EndLine, w: Width) -> usize
+    requires shape { Shape most_place nodes.now }
+    requires used { Used nodes.now i }
+    requires ends { end ≡ end_of (node_row nodes.now i) }
+    ensures { result ≡ length (own_record (bytes_of w) nodes.now i) }
 {
     if tag_at(nodes, i) == 0 {
         return 0;
     }
-    LINES_AT + end.at * (w + QUANTITY_BYTES)
+    LINES_AT + end.at * w.line_bytes()
 }
 
 // How many bytes the records of the kits on the chain that starts at a link, and below it, take.
-fn kits_size(nodes: &[u16], link: usize, line: usize, place: u16, quantity: u16, w: usize) -> usize
-    requires { (Reached nodes.now link (end_line line place quantity)) × ((Width w) × (length (records_from w nodes.now link) ≤ most_record * most_nodes)) }
-    ensures { result ≡ length (records_from w nodes.now link) }
+fn kits_size(nodes: &[u16], link: usize, line: usize, place: u16, quantity: u16, w: Width) -> usize
+    requires reached { Reached nodes.now link (end_line line place quantity) }
+    requires few { length (records_from (bytes_of w) nodes.now link) ≤ most_record * most_nodes }
+    ensures { result ≡ length (records_from (bytes_of w) nodes.now link) }
 {
     let above = EndLine {
         at: line,
-        place: place,
-        quantity: quantity,
+        place,
+        quantity,
     };
     let mut i = link;
     let mut size = 0;
@@ -235,11 +233,10 @@ fn kits_size(nodes: &[u16], link: usize, line: usize, place: u16, quantity: u16,
 }
 
 // How many bytes all kit records take.
-fn records_size(nodes: &[u16], w: usize) -> usize
-    requires fact_1 { Shape most_place nodes.now }
-    requires fact_2 { Width w }
-    ensures fact_1 { result ≡ length (all_records w nodes.now) }
-    ensures fact_2 { result ≤ most_record * most_nodes }
+fn records_size(nodes: &[u16], w: Width) -> usize
+    requires { Shape most_place nodes.now }
+    ensures size { result ≡ length (all_records (bytes_of w) nodes.now) }
+    ensures most { result ≤ most_record * most_nodes }
 {
     let none = EndLine::none();
     kits_size(
@@ -257,18 +254,16 @@ fn put_head(out: &mut [u8], parts: u16) -> usize
     requires { length (head_items parts) ≤ length out.old }
     ensures { Put out.old 0 (head_items parts) result out.new }
 {
-    let mark = Sheet::MARK;
-    copy_in(out, 0, &mark);
+    copy_in(out, 0, &Sheet::MARK);
     let at = Sheet::VERSION_AT + put_two(&mut out[Sheet::VERSION_AT..], Sheet::version(parts));
     at + put_two(&mut out[at..], parts)
 }
 
 // All kit records, with room for the lines of a row: those of all that is below the root, whose own kit has no unit.
-fn put_records(out: &mut [u8], nodes: &[u16], w: usize) -> usize
-    requires fact_1 { Shape most_place nodes.now }
-    requires fact_2 { Width w }
-    requires fact_3 { length (all_records w nodes.now) ≤ length out.old }
-    ensures { Put out.old 0 (all_records w nodes.now) result out.new }
+fn put_records(out: &mut [u8], nodes: &[u16], w: Width) -> usize
+    requires shape { Shape most_place nodes.now }
+    requires room { length (all_records (bytes_of w) nodes.now) ≤ length out.old }
+    ensures { Put out.old 0 (all_records (bytes_of w) nodes.now) result out.new }
 {
     let mut lines = [0; ROW_BYTES];
     let none = EndLine::none();
@@ -287,14 +282,14 @@ fn put_records(out: &mut [u8], nodes: &[u16], w: usize) -> usize
 
 // All items of a sheet, one behind the other.
 fn put_items(out: &mut [u8], reg: &[u8], nodes: &[u16], sheet: Sheet) -> usize
-    requires fact_1 { Ready reg.now }
-    requires fact_2 { Sound most_place nodes.now }
-    requires fact_3 { Counted reg.now nodes.now sheet }
-    requires fact_4 { length (encode (contents_of reg.now nodes.now)) ≤ length out.old }
+    requires ready { Ready reg.now }
+    requires sound { Sound most_place nodes.now }
+    requires counted { Counted reg.now nodes.now sheet }
+    requires room { length (encode (contents_of reg.now nodes.now)) ≤ length out.old }
     ensures { Put out.old 0 (encode (contents_of reg.now nodes.now)) result out.new }
 {
     let numbers = put_head(out, sheet.parts);
-    let count = numbers + put_numbers(&mut out[numbers..], reg, wide16(sheet.parts));
+    let count = numbers + put_numbers(&mut out[numbers..], reg, usize::from(sheet.parts));
     let records = count + put_two(&mut out[count..], sheet.kits);
     records + put_records(&mut out[records..], nodes, place_bytes(sheet.parts))
 }
@@ -311,8 +306,8 @@ pub fn write_sheet(reg: &[u8], nodes: &[u16], out: &mut [u8]) -> Answer
         + TWO_BYTES
         + records_size(nodes, place_bytes(parts as u16));
     if out.len() < need {
-        return Answer::NoRoom(need);
+        return Err(Refusal::NoRoom(need));
     }
     let sheet = Sheet::new(parts as u16, listed_count(nodes));
-    Answer::Done(put_items(out, reg, nodes, sheet))
+    Ok(put_items(out, reg, nodes, sheet))
 }

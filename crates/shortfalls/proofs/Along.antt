@@ -1,11 +1,11 @@
 -- The shortfall summed label by label along a row: what each label adds, and that the whole is the shortfall.
 use mathlib.Core.Path.{◌≡◌, refl, sym, ap, ◌∙◌}
 use mathlib.Core.List.{List, [], ◌∷◌, ◌++◌, append_assoc, append-nil}
-use Prim.Native.Nat.{ℕ, ◌+◌, ◌-◌, ◌≤◌, ◌<◌}
+use Prim.Native.Nat.{ℕ, ◌+◌, ◌-◌, ◌≤◌}
 use native.Mathlib.Omega.{arith}
 use lib.ListN.{length, get_or}
 use lib.Dec.{ltb, eqb}
-use borrow.Author.Tests.{eqb-true, eqb-false, eq-eqb, ne_eqb, ltb-true, ltb-false, lt-ltb, le-ltb}
+use borrow.Author.Tests.{eqb-true, eqb-false, ltb-true, ltb-false}
 use Rattle.ground.proofs.Laws.{by_cond}
 use Rattle.kits.specs.Kits.{most_place, count}
 use Rattle.kits.specs.Inner.{Counts}
@@ -17,26 +17,7 @@ use Rattle.shortfalls.specs.Shortfalls.{shortfall}
 use Rattle.shortfalls.specs.Inner.{none_passed, left_of, passing, after, along, short_in}
 use Rattle.shortfalls.proofs.Sums.{short_none, short_same, short_more, short_least}
 
--- What the bin has left for a label
-module _ (Q : List ℕ) (x last left : ℕ) where
-  pub left_last : x ≡ last → left ≡ left_of Q x last left
-  unfolding left_of
-  left_last e = rw (eq-eqb x last e)
-
-  pub left_other : (x ≡ last → ⊥) → {r : ℕ} → r ≡ get_or Q x 0 → r ≡ left_of Q x last left
-  unfolding left_of
-  left_other n e = rw (ne_eqb x last n) e
-
 -- A label more
-module _ (Q : List ℕ) (p : Passed) (x : ℕ) {l : ℕ} (e : l ≡ left_of Q x p.last p.left) where
-  pub pass_taken : 0 < l → record { last = x; left = l - 1; short = p.short } ≡ after Q p x
-  unfolding passing
-  pass_taken h = rw (← e, lt-ltb 0 l h)
-
-  pub pass_short : l ≤ 0 → record { last = x; left = 0; short = p.short + 1 } ≡ after Q p x
-  unfolding passing
-  pass_short h = rw (← e, le-ltb 0 l h)
-
 module _ (p : Passed) (x l : ℕ) where
   pass_last : (passing p x l).last ≡ x
   unfolding passing

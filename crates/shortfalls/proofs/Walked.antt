@@ -7,7 +7,6 @@ use native.Mathlib.Omega.{arith}
 use lib.ListN.{length, length-append, length-map}
 use borrow.Author.Tests.{le-leb, lt-leb}
 use Rattle.ground.specs.Lists.{keep}
-use Rattle.ground.proofs.Put.{put_length}
 use Rattle.kits.specs.Kits.{most_place}
 use Rattle.nodes.specs.Nodes.{parent, child, next, label, tag, size, row_of}
 use Rattle.nodes.specs.Inner.{Used, Shape, rank}
@@ -37,9 +36,6 @@ module _ {N Q : List ℕ} {d at : ℕ} {p : Passed} (A : AtLink N Q d at p) wher
   -- a link that is followed is in the table, and the labels there may be passed
   pub link_inside : (at ≡ 0 → ⊥) → at < size N
   link_inside n = (A.live (omega arith)).inside
-
-  pub may_pass : {l : ℕ} → (at ≡ 0 → ⊥) → l ≡ label N at → (l ≤ most_place) × (p.short ≤ most_short)
-  may_pass n e = (omega (arith, e, (A.shape.good at (A.live (omega arith))).place), omega (arith, A.few, A.most))
 
   -- at a link to nothing nothing is set down
   pub none_at : at ≡ 0 → {o z : List ℕ} {n : ℕ} → PutFrom Q d N at o z n n o z
@@ -158,11 +154,6 @@ pub came_first : {N Q o z : List ℕ} {d link n : ℕ} {p : Passed} → AtLink N
 came_first A = record { knows = A; lower = omega arith; whole = λ w. w }
 
 module _ {N Q o z o₁ z₁ : List ℕ} {d link n at k : ℕ} {p : Passed} (C : CameTo N Q d link p o z n o₁ z₁ at k) where
-  pub came_sizes : (length o₁ ≡ length o) × (length z₁ ≡ length z)
-  came_sizes =
-      let down = nodes_down (tag N) (short_at Q N) o₁ z₁ k (found_from (almost Q d) N at) in
-      (sym (put_length down.one) ∙ put_length (C.whole down).one, sym (put_length down.two) ∙ put_length (C.whole down).two)
-
   pub came_ends : k + length (found_from (almost Q d) N at) ≡ n + length (found_from (almost Q d) N link)
   came_ends =
       let down = nodes_down (tag N) (short_at Q N) o₁ z₁ k (found_from (almost Q d) N at) in

@@ -1,5 +1,6 @@
 // Request 1: kits that a bin almost fills, those whose shortfall is at most d, with the shortfall of each. On sound tables; the public call stands
 // above.
+// (Casts here are bounded, which the check proves: `try_from` would add a refusal that cannot come, no plainer.)
 #![tactic(auto)]
 
 ghost use Rattle.std.specs.Prelude.{◌≡◌, true, [], ◌+◌, ◌≤◌, ◌<◌, length};
@@ -12,8 +13,7 @@ ghost use Rattle.questions.specs.Inner.{found_from, some_tag, if_tag};
 ghost use Rattle.shortfalls.specs.Shortfalls.{most_short, list_almost};
 ghost use Rattle.shortfalls.specs.Inner.{left_of, after, almost, PutBoth, PutFrom, PutIn, AtLink};
 
-use answers::Answer;
-use ground::least;
+use answers::{Answer, Refusal};
 use kits::{MOST_UNITS, PLACES, set_quantities};
 use nodes::{child_at, label_at, next_at, tag_at};
 use questions::{kit_count, put_word, quantity};
@@ -29,34 +29,38 @@ pub struct Passed {
     pub short: u16,
 }
 
-// How many the bin has left for a label, behind the last one.
-fn left_of(bin: &[u16; PLACES], label: u16, last: u16, left: u16) -> u16
-    requires { label ≤ most_place }
-    ensures { result ≡ left_of bin.now label last left }
-{
-    if label == last {
-        return left;
+impl Passed {
+    // How many the bin has left for a label, behind the last one.
+    #[tactic(auto, unfolding(crate::specs::Inner::left_of))]
+    fn left_of(self, bin: &[u16; PLACES], label: u16) -> u16
+        requires { label ≤ most_place }
+        ensures { result ≡ left_of bin.now label self.last self.left }
+    {
+        if label == self.last {
+            return self.left;
+        }
+        quantity(bin, label)
     }
-    quantity(bin, label)
-}
 
-// A label more: it is taken from the bin, or it is short.
-fn pass(bin: &[u16; PLACES], p: Passed, label: u16) -> Passed
-    requires { (label ≤ most_place) × (p.short ≤ most_short) }
-    ensures { result ≡ after bin.now p label }
-{
-    let left = left_of(bin, label, p.last, p.left);
-    if 0 < left {
-        return Passed {
+    // A label more: it is taken from the bin, or it is short.
+    #[tactic(auto, unfolding(crate::specs::Inner::passing))]
+    fn pass(self, bin: &[u16; PLACES], label: u16) -> Passed
+        requires { (label ≤ most_place) × (self.short ≤ most_short) }
+        ensures { result ≡ after bin.now self label }
+    {
+        let left = self.left_of(bin, label);
+        if 0 < left {
+            return Passed {
+                last: label,
+                left: left - 1,
+                short: self.short,
+            };
+        }
+        Passed {
             last: label,
-            left: left - 1,
-            short: p.short,
-        };
-    }
-    Passed {
-        last: label,
-        left: 0,
-        short: p.short + 1,
+            left: 0,
+            short: self.short + 1,
+        }
     }
 }
 
@@ -74,7 +78,8 @@ fn put_both(tags: &mut [u16], shorts: &mut [u16], n: usize, t: u16, s: u16) -> u
 }
 
 // Sets down the kits with a shortfall of at most d on the chain that starts at a link, and below it, from n on; returns the place of the next.
-// A branch is left as soon as its shortfall passes d. Siblings are passed in a loop: it calls itself on a child alone.
+// A branch is left as soon as its shortfall passes d. Siblings are passed in a loop: it calls itself on a child alone. (Two outputs, lent by C, and
+// the walk's own numbers: a struct of both is no plainer.)
 fn list_almost(
     nodes: &[u16],
     bin: &[u16; PLACES],
@@ -92,7 +97,7 @@ fn list_almost(
     let mut k = n;
     while link != 0 {
         let here = link;
-        let then = pass(bin, p, label_at(nodes, here));
+        let then = p.pass(bin, label_at(nodes, here));
         link = next_at(nodes, here);
         if then.short <= d {
             k = put_both(tags, shorts, k, tag_at(nodes, here), then.short);
@@ -125,7 +130,8 @@ fn set_almost(
 }
 
 // All kits with a shortfall of at most d: their tags in listing order, and their shortfalls in step. Where both outputs have
-// room for all kits they are written at once; shorter ones are counted for first, so that a refusal writes nothing.
+// room for all kits they are written at once; shorter ones are counted for first, so that a refusal writes nothing. Two outputs in step
+// and no list of pairs: C lends them so.
 pub fn all_almost(
     nodes: &[u16],
     bin: &[u16],
@@ -140,14 +146,14 @@ pub fn all_almost(
 {
     let mut amounts = [0; PLACES];
     set_quantities(&mut amounts, bin);
-    let room = least(tags.len(), shorts.len());
+    let room = tags.len().min(shorts.len());
     if kit_count(nodes) <= room {
-        return Answer::Done(set_almost(nodes, &amounts, d, tags, shorts));
+        return Ok(set_almost(nodes, &amounts, d, tags, shorts));
     }
     let need = set_almost(nodes, &amounts, d, &mut tags[0..0], &mut shorts[0..0]);
     if room < need {
-        return Answer::NoRoom(need);
+        return Err(Refusal::NoRoom(need));
     }
     set_almost(nodes, &amounts, d, tags, shorts);
-    Answer::Done(need)
+    Ok(need)
 }

@@ -78,8 +78,8 @@ module _ (R N : List ℕ) where
         sound = (sound_exactly (length (parts_of R)) N (not-false _ b.0)).0 (not-false _ d.0);
       }
 
-  pub tested_sound : (r : Reply) (b : Bool) → r ≡ decide (lent_both (tables R N)) 0 → b ≡ is_refused r → b ≡ false → SoundTables (tables R N)
-  tested_sound r b is t e = both_passed (ap is_refused (sym is) ∙ sym t ∙ e)
+  pub passed_sound : done 0 ≡ decide (lent_both (tables R N)) 0 → SoundTables (tables R N)
+  passed_sound is = both_passed (ap is_refused (sym is))
 
   pub sound_passes : SoundTables (tables R N) → decide (lent_both (tables R N)) 0 ≡ done 0
   sound_passes s =
@@ -108,10 +108,14 @@ module _ (R N l : List ℕ) where
   lines_asked s r is = is ∙ sym (first_passes (done 0) (lent_both (tables R N)) _ 0 0 (sym (sound_passes R N s)) refl)
 
   -- a list that passed is good with the most parts
+  -- a list that passed is good with the most parts
   pub lines_good : SoundTables (tables R N) → (r : Reply) (b : Bool) → r ≡ decide (list_faults (length (parts_of R)) l) 0 → b ≡ is_refused r →
       b ≡ false → good_list most_place l ≡ true
   lines_good s r b is t e =
       good_most (length (parts_of R)) l (few_parts_lem R s.ready) (list_passed (length (parts_of R)) l (ap is_refused (sym is) ∙ sym t ∙ e))
+
+  pub lines_passed : SoundTables (tables R N) → done 0 ≡ decide (list_faults (length (parts_of R)) l) 0 → good_list most_place l ≡ true
+  lines_passed s is = good_most (length (parts_of R)) l (few_parts_lem R s.ready) (list_passed (length (parts_of R)) l (ap is_refused (sym is)))
 
   pub lent_passed : is_refused (decide (lent_list (tables R N) l) 0) ≡ false → SoundTables (tables R N)
   lent_passed e = go (is_refused (decide (lent_both (tables R N)) 0)) refl

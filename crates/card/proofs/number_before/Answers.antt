@@ -1,29 +1,14 @@
--- Numbers that agree in every byte passed: the rests stand to each other as the wholes do.
-use mathlib.Core.Path.{sym, refl, ◌∙◌}
-use native.Mathlib.Omega.{arith}
-use Rattle.card.proofs.Before.{before_on, before_parts, before_over, before_end}
+-- The order of slices is that of rows, number by number
+use mathlib.Core.Path.{refl}
+use Rattle.std.proofs.Common.{arith}
+use Rattle.std.specs.Ordering.{nat_cmp, is_lt}
+use Rattle.std.proofs.lemmas.Cmp.{same_from_slice_cmp_tested}
+use Rattle.std.proofs.lemmas.Bool.Decides.{nat_tests}
+use Rattle.kits.specs.Kits.{before}
 use Rattle.card.proofs.number_before.Goals as goal
 
-pub loop-i-init : goal.loop-i-init
-loop-i-init c = (omega arith, omega arith, refl)
-
-pub returns-then-i-b : goal.returns-then-i-b
-returns-then-i-b c =
-    sym (before_over c.args.a.now c.args.b.now c.loop-i.i (omega arith) (omega arith)) ∙ c.loop-i.invariant.2
-
-pub returns-then-a-i : goal.returns-then-a-i
-returns-then-a-i c =
-    sym (before_parts c.args.a.now c.args.b.now c.loop-i.i (omega arith) (omega arith) c.if-a-i.true)
-    ∙ c.loop-i.invariant.2
-
-pub loop-i-preserved : goal.loop-i-preserved
-loop-i-preserved c = (
-  omega arith,
-  omega arith,
-  sym (before_on c.args.a.now c.args.b.now c.loop-i.i (omega arith) (omega arith) c.if-a-i.false)
-      ∙ c.loop-i.invariant.2,
-)
-
 pub returns : goal.returns
+unfolding before
 returns c =
-    sym (before_end c.args.a.now c.args.b.now c.loop-i.i (omega arith)) ∙ c.loop-i.invariant.2
+    same_from_slice_cmp_tested nat_cmp is_lt before refl (λ _ _. refl) (λ _ _. refl) (λ x y xs ys o h. grind (arith, nat_tests))
+    c.args.a.now c.args.b.now c.lt.result c.lt.ensures

@@ -11,6 +11,6 @@ returns c =
     let e : c.args.at + c.item_size.result ≡ next_place c.args.s.now c.args.at = omega
     (arith, c.item_size.ensures.0) in
     record {
-      fact_1 = c.wide8.ensures.0 ∙ ap (λ (i : ℕ). get_or c.args.s.now i 0) e;
-      fact_2 = c.wide8.ensures.1;
+      value = c.from.ensures ∙ ap (λ (i : ℕ). get_or c.args.s.now i 0) e;
+      byte = omega (arith, c.from.ensures);
     }

@@ -1,17 +1,17 @@
 -- What the tables are refused for comes first; sound ones are lent on.
-use mathlib.Core.Path.{sym, ◌∙◌}
-use Rattle.tables.proofs.Lent.{tested_sound, list_refused}
+use Rattle.answers.proofs.Answers.{refuses, handed_reply}
+use Rattle.tables.proofs.Lent.{passed_sound, list_refused}
 use Rattle.catalogue.proofs.Answers.{find_refused}
 use Rattle.catalogue.proofs.Cards.{write_card_refused}
 use Rattle.catalogue.proofs.write_card.Goals as goal
 
-pub returns-then-refused : goal.returns-then-refused
-returns-then-refused c =
+pub returns-in_err-check_tables : goal.returns-in_err-check_tables
+returns-in_err-check_tables c =
     let a = c.args in
-    let is = c.check_tables-lent.ensures in
-    let e = sym c.refused.ensures ∙ c.if-refused.true in
-    write_card_refused a.reg.now a.nodes.now a.list.now a.out.now _
-    (find_refused a.reg.now a.nodes.now a.list.now _ (list_refused _ _ _ _ is e) e) e
+    let is = c.in_err-check_tables.ensures in
+    let e = refuses c.in_err-check_tables.field-0.0 in
+    rw (handed_reply _ _ c.from_residual.ensures.1)
+    (write_card_refused a.reg.now a.nodes.now a.list.now a.out.now _ (find_refused a.reg.now a.nodes.now a.list.now _ (list_refused _ _ _ _ is e) e) e)
 
 pub write_card-requires : goal.write_card-requires
-write_card-requires c = search tested_sound
+write_card-requires c = passed_sound _ _ c.in_ok-check_tables.ensures

@@ -7,6 +7,6 @@ pub serve-requires : goal.serve-requires
 serve-requires c =
     record {
       keeps = keeps_none _ c.line_room-kept.ensures;
-      begun = begun_tables _ _ c.empty_register-reg.ensures.1 c.empty_nodes-nodes.ensures.1;
-      room = room_enough _ _ _ c.output_places-places.ensures c.sheet_room-sheet.ensures c.reply_room-out.ensures;
+      begun = begun_tables _ _ c.empty_register.ensures.1 c.empty_nodes.ensures.1;
+      room = room_enough _ _ _ c.output_places.ensures c.sheet_room.ensures c.reply_room.ensures;
     }

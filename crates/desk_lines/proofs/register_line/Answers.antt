@@ -8,14 +8,14 @@ use Rattle.desk_lines.proofs.register_line.Goals as goal
 
 pub slice_bounds-register_in-count : goal.slice_bounds-register_in-count
 slice_bounds-register_in-count c =
-    one_inside _ _ c.requires.fact_1
+    one_inside _ _ c.requires.one_number
 
 pub slice_bounds-register_in-start : goal.slice_bounds-register_in-start
 slice_bounds-register_in-start c =
-    one_inside _ _ c.requires.fact_1
+    one_inside _ _ c.requires.one_number
 
 pub returns : goal.returns
 returns c =
     let a = c.args in
     register_put (fields_from a.line.now a.from) a.reg.now a.nodes.now _ (reply c.register_in.result) _
-    (sym (one_field _ _ c.requires.fact_1)) c.register_in.ensures c.put_answer.ensures
+    (sym (one_field _ _ c.requires.one_number)) c.register_in.ensures c.put_answer.ensures

@@ -11,8 +11,8 @@ pub put_written-requires : goal.put_written-requires
 put_written-requires c =
     let a = c.args in
     record {
-      fact_1 = omega (arith, c.write_sheet-a.auto.out);
-      fact_2 = written_inside
+      room = omega (arith, c.write_sheet-a.auto.out);
+      inside = written_inside
           (tables a.reg.now a.nodes.now) a.sheet.now _ _ c.write_sheet-a.ensures;
     }
 
@@ -21,7 +21,7 @@ unfolding write_line
 returns c =
     let a = c.args in
     record {
-      fact_1 = shown_put writes sheet_text (writing (tables a.reg.now a.nodes.now) a.sheet.now) a.sheet.now _ _
+      says = shown_put writes sheet_text (writing (tables a.reg.now a.nodes.now) a.sheet.now) a.sheet.now _ _
           c.write_sheet-a.ensures c.put_written.ensures;
-      fact_2 = c.write_sheet-a.ensures.lent;
+      sheet = c.write_sheet-a.ensures.lent;
     }

@@ -1,12 +1,15 @@
 -- The list so far, before what the pairs to come type, is all; a pair takes four bytes, so 256 words are enough.
 use mathlib.Core.Path.{ap, sym, ◌∙◌}
 use native.Mathlib.Omega.{arith}
-use Rattle.ground.specs.Calls.{Reply, done, number_of, value_of, leaves}
-use Rattle.ground.proofs.Calls.{passed_done, refused_says, refused_leaves}
-use Rattle.answers.specs.Answers.{reply}
+use Rattle.ground.specs.Calls.{Reply, number_of, value_of, leaves}
+use Rattle.ground.proofs.Calls.{refused_says, refused_leaves}
+use Rattle.answers.specs.Answers.{refusal}
 use Rattle.desk_lists.specs.Inner.{typed_as}
-use Rattle.desk_text.proofs.Amounts.{amount_value}
-use Rattle.desk_lists.proofs.Typing.{reading_start, reading_inside, reading_end, reading_stopped, reading_on, pair_room, quantity_follows, amount_follows}
+use Rattle.std.proofs.lemmas.Result.{err_from_is_err_and}
+use Rattle.desk_text.proofs.Amounts.{good_if_some, amount_value}
+use Rattle.desk_lists.proofs.Typing.{reading_start, reading_inside, reading_end, reading_stopped}
+use Rattle.desk_lists.proofs.Typing.{reading_on, pair_room, quantity_follows, amount_follows}
+use Rattle.answers.proofs.Answers.{refuses}
 use Rattle.desk_lists.proofs.read_list.Goals as goal
 
 pub loop-at-init : goal.loop-at-init
@@ -21,29 +24,25 @@ slice_bounds-look_up_in-start c = omega (arith, c.end_of-number_end.ensures.low,
 pub slice_bounds-look_up_in-end : goal.slice_bounds-look_up_in-end
 slice_bounds-look_up_in-end c = omega (arith, c.end_of-number_end.ensures.high)
 
-pub look_up_in-found-requires : goal.look_up_in-found-requires
-look_up_in-found-requires c =
-    c.requires.fact_2
+pub look_up_in-requires : goal.look_up_in-requires
+look_up_in-requires c =
+    c.requires.ready
 
-pub shape_of-list-then-refused : goal.shape_of-list-then-refused
-shape_of-list-then-refused c =
-    c.loop-at.invariant.size
-
-pub returns-then-refused : goal.returns-then-refused
-returns-then-refused c =
-    let a = reply c.look_up_in-found.result in
-    let e = sym c.refused.ensures ∙ c.if-refused.true in
-    let q = refused_says a e in
-    record {
+pub returns-in_err-place : goal.returns-in_err-place
+returns-in_err-place c =
+    let p = err_from_is_err_and c.from_residual.result c.from_residual.ensures.1 in
+    let e = c.in_err-place.field-0.0 in
+    let q = refused_says (refusal e) (refuses e) in
+    rw (p.1, p.2)
+    (record {
       says = ap (λ (z : Reply). typed_as z c.loop-at.list) q
           ∙ reading_stopped c.loop-at.invariant c.end_of-number_end.result c.loop-at-test.true c.end_of-number_end.ensures
-          (number_of a) (value_of a) (sym c.look_up_in-found.ensures.fact_1 ∙ q);
-      inside = rw (refused_leaves a 0 (value_of a) e) (omega arith);
-    }
+          (number_of (refusal e)) (value_of (refusal e)) (sym c.in_err-place.ensures.fact_1 ∙ q);
+      inside = rw (refused_leaves (refusal e) 0 (value_of (refusal e)) (refuses e)) (omega arith);
+    })
 
 pub overflow_cast-place : goal.overflow_cast-place
-overflow_cast-place c =
-    omega (arith, c.reply_of-place.ensures.value, c.look_up_in-found.ensures.fact_2)
+overflow_cast-place c = omega (arith, c.in_ok-place.ensures.fact_2)
 
 pub overflow_add-start : goal.overflow_add-start
 overflow_add-start c =
@@ -62,6 +61,11 @@ slice_bounds-read_amount-start c = omega (arith, c.end_of-end.ensures.low, c.end
 
 pub slice_bounds-read_amount-end : goal.slice_bounds-read_amount-end
 slice_bounds-read_amount-end c = omega (arith, c.end_of-end.ensures.high)
+
+pub unwrap-quantity-requires : goal.unwrap-quantity-requires
+unwrap-quantity-requires c =
+    good_if_some _ _ c.read_amount.ensures
+    ∙ amount_follows _ _ _ c.loop-at.invariant.pairs c.loop-at-test.true c.end_of-number_end.ensures _ c.end_of-end.ensures
 
 pub put_pair-requires : goal.put_pair-requires
 put_pair-requires c = search pair_room
@@ -85,13 +89,9 @@ loop-at-smaller c =
 
 pub loop-at-preserved : goal.loop-at-preserved
 loop-at-preserved c =
-    let a = sym c.look_up_in-found.ensures.fact_1 ∙ passed_done (reply c.look_up_in-found.result) (sym c.refused.ensures ∙ c.if-refused.false)
-    ∙ ap done (sym c.reply_of-place.ensures.value) in
-    let g = amount_follows _ _ _ c.loop-at.invariant.pairs c.loop-at-test.true c.end_of-number_end.ensures _
-    c.end_of-end.ensures in
     reading_on c.loop-at.invariant _ c.loop-at-test.true c.end_of-number_end.ensures _ c.end_of-end.ensures
-    c.reply_of-place.result.value c.read_amount-quantity.result.value _ a
-    (amount_value _ _ c.read_amount-quantity.ensures g) c.put_pair.ensures
+    c.in_ok-place.field-0 c.unwrap-quantity.result _ (sym c.in_ok-place.ensures.fact_1)
+    (amount_value _ _ c.read_amount.ensures _ c.unwrap-quantity.ensures).1 c.put_pair.ensures
 
 pub shape_of-list : goal.shape_of-list
 shape_of-list c = c.loop-at.invariant.size

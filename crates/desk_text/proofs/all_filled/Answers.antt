@@ -1,26 +1,26 @@
--- The fields passed are filled, so the rest answer for the line; an empty field ends where it starts.
-use native.Mathlib.Omega.{arith}
-use Rattle.desk_text.proofs.Lines.{all_from, filled_no, filled_yes, filled_end}
+-- The library's parts of a slice are the fields of a line.
+use Rattle.std.proofs.Common.{◌≡◌, ℕ, Bool, List, [], ◌∷◌, ◌&&◌, not, eqb, leb, refl, ap, ◌∙◌, rules, tests}
+use Rattle.std.specs.List.{list_all}
+use Rattle.std.proofs.lemmas.Iterator.Search.{all_from_yields_List}
+use Rattle.std.proofs.lemmas.Iterator.Splits.{YieldsList-from_slice_split}
+use Rattle.ground.specs.Lists.{allb}
+use Rattle.desk_text.specs.Lines.{space, filled}
+use Rattle.desk_text.proofs.Parted.{parted_split}
 use Rattle.desk_text.proofs.all_filled.Goals as goal
 
-pub loop-start-init : goal.loop-start-init
-loop-start-init c = (omega arith, all_from _)
+all_same : {A : Type 0} (p : A → Bool) (xs : List A) → list_all p xs ≡ allb p xs
+unfolding allb
+all_same p [] = refl
+all_same p (x ∷ xs) = ap (◌&&◌ (p x)) (all_same p xs)
 
-pub returns-then-end-start : goal.returns-then-end-start
-returns-then-end-start c = cc (filled_no _ _ _ (omega arith) c.end_of-end.ensures c.if-end-start.true)
-
-pub overflow_add-start : goal.overflow_add-start
-overflow_add-start c = omega (arith, c.end_of-end.ensures.high)
-
-pub loop-start-smaller : goal.loop-start-smaller
-loop-start-smaller c = omega (arith, c.end_of-end.ensures.low)
-
-pub loop-start-preserved : goal.loop-start-preserved
-loop-start-preserved c = (
-  omega (arith, c.end_of-end.ensures.high),
-  cc
-      (filled_yes _ _ _ (omega arith) c.end_of-end.ensures c.if-end-start.false),
-)
+filled_if : (n : ℕ) → not (eqb n 0) ≡ leb 1 n
+filled_if n = search (rules, tests)
 
 pub returns : goal.returns
-returns c = cc (filled_end _ _ c.loop-start-test.false)
+unfolding filled
+returns c =
+    let l = c.args.line.now in
+    all_from_yields_List filled _ _ c.all.result c.all.ensures.ran
+    (YieldsList-from_slice_split _ (λ x. eqb x space) l c.split.ensures.rest c.split.ensures.done c.split.ensures.closure (λ x b q k. search (rules, tests)))
+    (λ x b q k. search (rules, tests, filled_if))
+    ∙ all_same filled _ ∙ ap (allb filled) (parted_split space l)

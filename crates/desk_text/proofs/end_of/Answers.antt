@@ -1,25 +1,20 @@
--- No byte passed is b, so the stretch from here ends where the whole ends.
-use mathlib.Core.Path.{refl}
+-- The stretch ends behind the bytes that stand before the first b.
 use native.Mathlib.Omega.{arith}
-use Rattle.desk_text.proofs.Parted.{up_to_here, up_to_on, up_to_end}
+use mathlib.Core.Path.{◌≡◌, ap, ◌∙◌}
+use lib.ListN.{drop, length-drop}
+use lib.Seq.{take_all}
+use Rattle.desk_text.specs.Inner.{up_to}
+use Rattle.desk_text.proofs.Parted.{end_there}
 use Rattle.desk_text.proofs.end_of.Goals as goal
+use Rattle.desk_text.proofs.end_of.Goals.{After-bytes_before}
 
-pub loop-i-init : goal.loop-i-init
-loop-i-init c = (omega arith, c.requires, refl)
-
-pub returns-then-s-i : goal.returns-then-s-i
-returns-then-s-i c =
-    let z = up_to_here c.args.b c.args.s.now c.loop-i.i c.loop-i-test.true
-    c.if-s-i.true in
-    record { ends = omega (arith, z); low = omega arith; high = omega arith }
-
-pub loop-i-preserved : goal.loop-i-preserved
-loop-i-preserved c =
-    let z = up_to_on c.args.b c.args.s.now c.loop-i.i c.loop-i-test.true
-    c.if-s-i.false in
-    (omega arith, omega arith, omega (arith, z))
+ends : (c : After-bytes_before) → c.bytes_before.result ≡ up_to c.args.b (drop c.args.from c.args.s.now)
+ends c = c.bytes_before.ensures ∙ ap (up_to c.args.b) (take_all _ (drop c.args.from c.args.s.now) (simp length-drop (omega arith)))
 
 pub returns : goal.returns
-returns c =
-    let z = up_to_end c.args.b c.args.s.now c.loop-i.i c.loop-i-test.false in
-    record { ends = omega (arith, z); low = omega arith; high = omega arith }
+returns c = rw (ends c) (end_there c.args.b c.args.s.now c.args.from c.requires)
+
+pub overflow_add-result : goal.overflow_add-result
+overflow_add-result c =
+    let e = end_there c.args.b c.args.s.now c.args.from c.requires in
+    omega (arith, ends c, e.high)

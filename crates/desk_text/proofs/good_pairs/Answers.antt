@@ -2,9 +2,8 @@
 use mathlib.Core.Path.{refl, sym, ◌∙◌}
 use Prim.Native.Nat.{◌<◌}
 use native.Mathlib.Omega.{arith}
-use borrow.Author.Tests.{not-true, not-false}
 use lib.ListN.{length}
-use Rattle.desk_text.proofs.Amounts.{amount_good}
+use Rattle.desk_text.proofs.Amounts.{good_if_some}
 use Rattle.desk_text.proofs.Lines.{pairs_odd, pairs_no, pairs_yes, pairs_end}
 use Rattle.desk_text.proofs.good_pairs.Goals as goal
 
@@ -32,12 +31,12 @@ slice_bounds-read_amount-start c = omega (arith, c.end_of-end.ensures.low, c.end
 pub slice_bounds-read_amount-end : goal.slice_bounds-read_amount-end
 slice_bounds-read_amount-end c = omega (arith, c.end_of-end.ensures.high)
 
-pub returns-then-not-read_amount : goal.returns-then-not-read_amount
-returns-then-not-read_amount c =
+pub returns-then-is_none : goal.returns-then-is_none
+returns-then-is_none c =
     let g : c.end_of-number_end.result < length c.args.line.now = omega
     (arith, c.end_of-number_end.ensures.high, c.if-number_end-line.false) in
-    cc (pairs_no _ _ _ c.loop-at-test.true c.end_of-number_end.ensures _ g c.end_of-end.ensures
-    (sym (amount_good _ _ c.read_amount.ensures) ∙ not-true _ c.if-not-read_amount.true))
+    let bad = sym (good_if_some _ _ c.read_amount.ensures) ∙ c.if-is_none.ensures in
+    sym (pairs_no _ _ _ c.loop-at-test.true c.end_of-number_end.ensures _ g c.end_of-end.ensures bad) ∙ c.loop-at.invariant.1
 
 pub loop-at-smaller : goal.loop-at-smaller
 loop-at-smaller c =
@@ -46,11 +45,10 @@ loop-at-smaller c =
 pub loop-at-preserved : goal.loop-at-preserved
 loop-at-preserved c =
     let g : c.end_of-number_end.result < length c.args.line.now = omega
-    (arith, c.end_of-number_end.ensures.high, c.if-number_end-line.false) in (
+    (arith, c.end_of-number_end.ensures.high, c.if-number_end-line.false) in
+    let good = sym (good_if_some _ _ c.read_amount.ensures) ∙ c.if-is_none.ensures in (
       omega (arith, c.end_of-end.ensures.high),
-      cc
-          (pairs_yes _ _ _ c.loop-at-test.true c.end_of-number_end.ensures _ g c.end_of-end.ensures
-          (sym (amount_good _ _ c.read_amount.ensures) ∙ not-false _ c.if-not-read_amount.false)),
+      sym (pairs_yes _ _ _ c.loop-at-test.true c.end_of-number_end.ensures _ g c.end_of-end.ensures good) ∙ c.loop-at.invariant.1,
     )
 
 pub returns : goal.returns

@@ -8,9 +8,9 @@ use Rattle.face.proofs.padrisk_all_containing.Goals as goal
 pub hand_over-requires : goal.hand_over-requires
 hand_over-requires c =
     let a = c.args in
-    reply_small _ c.all_containing.ensures.answers
+    reply_small _ c.all.ensures.answers
     (all_small a.reg.now a.nodes.now (λ i. omega (arith, c.type_inv.nodes i)) is_containing a.list.now a.out.now)
 
 pub returns : goal.returns
 returns c =
-    crossed c.all_containing.ensures c.hand_over.ensures
+    crossed c.all.ensures c.hand_over.ensures

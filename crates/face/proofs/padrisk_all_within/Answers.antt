@@ -8,9 +8,9 @@ use Rattle.face.proofs.padrisk_all_within.Goals as goal
 pub hand_over-requires : goal.hand_over-requires
 hand_over-requires c =
     let a = c.args in
-    reply_small _ c.all_within.ensures.answers
+    reply_small _ c.all.ensures.answers
     (all_small a.reg.now a.nodes.now (λ i. omega (arith, c.type_inv.nodes i)) is_within a.bin.now a.out.now)
 
 pub returns : goal.returns
 returns c =
-    crossed c.all_within.ensures c.hand_over.ensures
+    crossed c.all.ensures c.hand_over.ensures

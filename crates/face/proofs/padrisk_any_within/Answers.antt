@@ -8,9 +8,9 @@ use Rattle.face.proofs.padrisk_any_within.Goals as goal
 pub hand_over-requires : goal.hand_over-requires
 hand_over-requires c =
     let a = c.args in
-    reply_small _ c.any_within.ensures
+    reply_small _ c.any.ensures
     (any_small a.reg.now a.nodes.now (λ i. omega (arith, c.type_inv.nodes i)) is_within a.bin.now)
 
 pub returns : goal.returns
 returns c =
-    handed_answer c.hand_over.ensures c.any_within.ensures
+    handed_answer c.hand_over.ensures c.any.ensures

@@ -1,10 +1,5 @@
-use Prim.Native.Nat.{◌-◌}
-use lib.ListN.{length}
 use Rattle.index.specs.Inner.{Going}
 use Rattle.index.proofs.descend.Given as goal
 
-abbrev pub invariant-loop-d : goal.invariant-loop-d
-invariant-loop-d l = Going l.nodes l.row l.p l.d
-
-abbrev pub decreases-loop-d : goal.decreases-loop-d
-decreases-loop-d l = length l.row - l.d
+abbrev pub invariant-loop-label : goal.invariant-loop-label
+invariant-loop-label l = Going l.nodes l.row l.p l.label-index

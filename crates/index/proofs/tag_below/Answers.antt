@@ -1,23 +1,20 @@
 -- A deepest node less deep than the row leaves no node for it; one as deep is the only node of the row.
-use mathlib.Core.Path.{◌∙◌}
+use mathlib.Core.Path.{sym, ◌∙◌}
 use native.Mathlib.Omega.{arith}
-use Rattle.nodes.proofs.Rows.{climb, live_inside}
 use Rattle.index.proofs.Tags.{tag_missing, tag_found}
 use Rattle.index.proofs.tag_below.Goals as goal
 
-pub depth_at-requires : goal.depth_at-requires
-depth_at-requires c =
-    live_inside (climb c.requires.fact_1.shape) c.args.p c.requires.fact_2.going.live
-
 pub returns-then-depth_at-row : goal.returns-then-depth_at-row
 returns-then-depth_at-row c =
-    tag_missing c.requires.fact_1.shape c.requires.fact_2 (omega (arith, c.depth_at.ensures.0, c.if-depth_at-row.true))
+    sym (tag_missing c.requires.sound.shape c.requires.deepest (omega (arith, c.depth_at.ensures.0)))
 
-pub tag_at-requires : goal.tag_at-requires
-tag_at-requires c =
-    live_inside (climb c.requires.fact_1.shape) c.args.p c.requires.fact_2.going.live
+pub returns-then-tag-eq0 : goal.returns-then-tag-eq0
+returns-then-tag-eq0 c =
+    sym (tag_found c.requires.sound.shape c.requires.deepest (omega (arith, c.depth_at.ensures.0)))
+    ∙ sym c.tag_at-tag.ensures ∙ c.if-tag-eq0.true
 
 pub returns : goal.returns
-returns c =
-    c.tag_at.ensures ∙ tag_found c.requires.fact_1.shape c.requires.fact_2
-    (omega (arith, c.depth_at.ensures.0))
+returns c = (
+  c.tag_at-tag.ensures ∙ tag_found c.requires.sound.shape c.requires.deepest (omega (arith, c.depth_at.ensures.0)),
+  omega (arith, c.if-tag-eq0.false),
+)

@@ -1,10 +1,5 @@
-use Prim.Native.Nat.{◌-◌}
-use lib.ListN.{length}
 use Rattle.index_insert.proofs.Growing.{Growing}
 use Rattle.index_insert.proofs.grow.Given as goal
 
-abbrev pub invariant-loop-d : goal.invariant-loop-d
-invariant-loop-d l = Growing l.initial.nodes l.row l.at l.from l.t l.nodes l.p l.a l.d
-
-abbrev pub decreases-loop-d : goal.decreases-loop-d
-decreases-loop-d l = length l.row - l.d
+abbrev pub invariant-loop-label : goal.invariant-loop-label
+invariant-loop-label l = Growing l.initial.nodes l.labels l.at l.tag l.nodes l.p l.a l.label-index

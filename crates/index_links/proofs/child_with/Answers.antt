@@ -1,15 +1,9 @@
 -- The chain is followed while its labels are too small: the rest has the child exactly when the whole chain has it.
-use Rattle.index_links.proofs.Seeking.{follows_inside, follows_less, seek_start, seek_found, seek_past, seek_on, seek_end}
+use Rattle.index_links.proofs.Seeking.{follows_less, seek_start, seek_found, seek_past, seek_on, seek_end}
 use Rattle.index_links.proofs.child_with.Goals as goal
-
-pub child_at-c-requires : goal.child_at-c-requires
-child_at-c-requires c = c.requires.inside
 
 pub loop-c-init : goal.loop-c-init
 loop-c-init c = seek_start c.requires c.child_at-c.ensures.0
-
-pub label_at-m-requires : goal.label_at-m-requires
-label_at-m-requires c = search follows_inside
 
 pub returns-then-m-l : goal.returns-then-m-l
 returns-then-m-l c =
@@ -18,9 +12,6 @@ returns-then-m-l c =
 pub returns-then-l-m : goal.returns-then-l-m
 returns-then-l-m c =
     seek_past c.loop-c.invariant c.loop-c-test.true c.label_at-m.ensures c.if-l-m.true
-
-pub next_at-c-requires : goal.next_at-c-requires
-next_at-c-requires c = search follows_inside
 
 pub loop-c-smaller : goal.loop-c-smaller
 loop-c-smaller c = search follows_less

@@ -1,35 +1,24 @@
 -- The old word of the link is read first and goes into the new node, so what followed in the chain follows it.
-use Prim.Native.Nat.{◌+◌}
-use mathlib.Core.Path.{◌∙◌, ap, refl}
+use mathlib.Core.Path.{◌∙◌}
 use native.Mathlib.Omega.{arith}
 use Rattle.index_links.proofs.Words.{link_words}
 use Rattle.index_links.proofs.Seeking.{link_word_inside, word_is_link}
 use Rattle.index_links.proofs.link_behind.Goals as goal
 
 pub offset_bounds-nodes-w : goal.offset_bounds-nodes-w
-offset_bounds-nodes-w c =
-    omega (arith, c.word_behind-w.ensures, link_word_inside c.requires)
+offset_bounds-nodes-w c = omega (arith, c.word_behind-w.ensures, link_word_inside c.requires)
 
 pub bounds-nodes-w : goal.bounds-nodes-w
-bounds-nodes-w c =
-    omega (arith, c.word_behind-w.ensures, link_word_inside c.requires)
-
-pub narrow16-requires : goal.narrow16-requires
-narrow16-requires c =
-    omega (arith, c.requires.links.reads.inside, c.requires.links.reads.shape.sized.most)
+bounds-nodes-w c = omega (arith, c.word_behind-w.ensures, link_word_inside c.requires)
 
 pub offset_bounds-nodes-w-2 : goal.offset_bounds-nodes-w-2
-offset_bounds-nodes-w-2 c =
-    omega (arith, c.word_behind-w.ensures, link_word_inside c.requires)
+offset_bounds-nodes-w-2 c = omega (arith, c.word_behind-w.ensures, link_word_inside c.requires)
 
 pub bounds-nodes-w-2 : goal.bounds-nodes-w-2
-bounds-nodes-w-2 c =
-    omega (arith, c.word_behind-w.ensures, link_word_inside c.requires)
+bounds-nodes-w-2 c = omega (arith, c.word_behind-w.ensures, link_word_inside c.requires)
 
 pub returns : goal.returns
 returns c =
-    link_words c.args.nodes.now c.args.p c.args.l c.args.f c.word_behind-w.result
-    c.narrow16.result _ c.narrow16-2.result c.narrow16-3.result _
+    link_words c.args.nodes.now c.args.p c.args.l c.args.f c.word_behind-w.result c.depth_at-depth.result _
     (c.word_behind-w.ensures ∙ word_is_link c.args.nodes.now c.args.p c.args.l c.args.b c.requires.last)
-    c.narrow16.ensures refl (c.narrow16-2.ensures ∙ ap (λ d. d + 1) c.depth_at-depth.ensures.0)
-    c.narrow16-3.ensures c.put_node.ensures
+    c.depth_at-depth.ensures.0 c.put_node.ensures

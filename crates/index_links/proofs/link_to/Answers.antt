@@ -7,12 +7,12 @@ use Rattle.index_links.proofs.link_to.Goals as goal
 pub returns : goal.returns
 returns c =
     record {
-      fact_1 = c.word_behind.ensures ∙ word_is_link c.args.nodes.now c.args.p c.args.l c.last_below-b.result
-          c.last_below-b.ensures.fact_1;
-      fact_2 = omega (
+      is_link = c.word_behind.ensures ∙ word_is_link c.args.nodes.now c.args.p c.args.l c.last_below-b.result
+          c.last_below-b.ensures.is_last;
+      inside = omega (
         arith,
         c.word_behind.ensures,
         word_inside c.args.nodes.now c.args.p c.last_below-b.result c.requires.inside
-            c.last_below-b.ensures.fact_2,
+            c.last_below-b.ensures.inside,
       );
     }

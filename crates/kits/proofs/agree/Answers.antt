@@ -1,58 +1,21 @@
--- agree: what is passed and what the rests agree in is what the rows agree in
-use mathlib.Core.Path.{◌≡◌}
-use native.Mathlib.Omega.{arith}
-use lib.ListN.{length}
-use Rattle.kits.specs.Kits.{most_units}
-use borrow.Author.Rules.{rules}
-use Rattle.kits.proofs.Rows.{row_wide, rows_on, rows_off, rows_end, rows_over}
+-- agree: the front of equal pairs
+use Rattle.std.proofs.Common.{◌∙◌, eqb, rules}
+use Rattle.std.proofs.lemmas.Iterator.{YieldsList-from_slice, YieldsList-from_zip}
+use Rattle.std.proofs.lemmas.Iterator.Consumers.{YieldsList-at, count_from_yields_List}
+use Rattle.std.proofs.lemmas.Iterator.Search.{YieldsList-from_take_while}
+use Rattle.std.proofs.lemmas.List.Folds.{length-prefix_len}
+use Rattle.std.specs.List.{zip}
+use borrow.Author.Tests.{tests}
+use Rattle.kits.specs.Kits.{units_in}
+use Rattle.kits.proofs.Rows.{agreed_is}
 use Rattle.kits.proofs.agree.Goals as goal
-use Rattle.kits.proofs.agree.Goals.{Start}
-
--- a row by value has 64 places
-wide-a : (c : Start) → length c.args.a.places ≡ most_units
-wide-a c = row_wide c.args.a c.well_formed.0.1.1.0.1.0.1
-
-wide-b : (c : Start) → length c.args.b.places ≡ most_units
-wide-b c = row_wide c.args.b c.well_formed.1.0.1.1.0.1.0.1
-
-pub loop-i-init : goal.loop-i-init
-loop-i-init c = (omega arith, omega arith, c.requires.0, c.requires.1, wide-a c, wide-b c, omega arith)
-
-pub returns-then-i-b : goal.returns-then-i-b
-returns-then-i-b c =
-    omega (
-      arith,
-      rows_over c.args.a c.args.b c.loop-i.invariant.4 c.loop-i.invariant.5
-          c.loop-i.invariant.2 c.loop-i.invariant.3 c.loop-i.i (omega arith),
-    )
-
-pub returns-then-a-i : goal.returns-then-a-i
-returns-then-a-i c =
-    omega (
-      arith,
-      rows_off c.args.a c.args.b c.loop-i.invariant.4 c.loop-i.invariant.5
-          c.loop-i.invariant.2 c.loop-i.invariant.3 c.loop-i.i (omega arith) (omega arith) c.if-a-i.true,
-    )
-
-pub loop-i-preserved : goal.loop-i-preserved
-loop-i-preserved c = (
-  omega arith,
-  omega arith,
-  omega arith,
-  omega arith,
-  search rules,
-  search rules,
-  omega (
-    arith,
-    rows_on c.args.a c.args.b c.loop-i.invariant.4 c.loop-i.invariant.5 c.loop-i.invariant.2
-        c.loop-i.invariant.3 c.loop-i.i (omega arith) (omega arith) c.if-a-i.false,
-  ),
-)
 
 pub returns : goal.returns
 returns c =
-    omega (
-      arith,
-      rows_end c.args.a c.args.b c.loop-i.invariant.4 c.loop-i.invariant.5
-          c.loop-i.invariant.2 c.loop-i.invariant.3 c.loop-i.i (omega arith),
-    )
+    let a = units_in c.args.a in
+    let b = units_in c.args.b in
+    let pairs = YieldsList-from_zip (YieldsList-from_slice {s = c.zip.result.a} a cc) (YieldsList-from_slice {s = c.zip.result.b} b cc) in
+    count_from_yields_List c.take_while.result _ c.count.ensures.ran
+    (YieldsList-from_take_while _ (λ x. eqb x.0 x.1) (YieldsList-at c.take_while.ensures.source pairs)
+    c.take_while.ensures.closure c.take_while.ensures.done (λ x b q k. search (rules, tests)))
+    ∙ length-prefix_len (λ x. eqb x.0 x.1) (zip a b) ∙ agreed_is a b

@@ -1,40 +1,44 @@
 -- The rest entered over what is entered is the whole entered over zeros; places rise, so no entry is set twice
-use mathlib.Core.Path.{refl, ap, sym, ◌∙◌}
-use mathlib.Core.List.{List}
-use Prim.Native.Nat.{ℕ, ◌+◌}
-use native.Mathlib.Omega.{arith}
-use lib.ListN.{length-set, length-replicate}
+use Rattle.std.proofs.Common.{ℕ, ◌+◌, sym, ◌∙◌, ◌≡◌, length-set, rules, arith}
+use Rattle.std.proofs.lemmas.List.{length-replicate}
+use Rattle.std.specs.Slice.Iter.{chunks_exact_rest}
 use Rattle.kits.specs.Kits.{most_place}
-use Rattle.kits.proofs.Good.{good_lines_lem, good_place_lem}
-use Rattle.kits.proofs.Quantities.{entered, entered_line, entered_end, entered_all}
+use Rattle.kits.proofs.Lists.{line_first}
+use Rattle.kits.proofs.Good.{good_lines_lem, good_first, good_wider}
+use Rattle.kits.proofs.Quantities.{entered_first, entered_short, entered_all}
 use Rattle.kits.proofs.set_quantities.Goals as goal
 
-pub loop-i-init : goal.loop-i-init
-loop-i-init c =
+pub loop-line-init : goal.loop-line-init
+loop-line-init c =
     let zeros = c.requires.fact_2 in
-    (omega arith, refl, rw zeros (length-replicate {A = ℕ} (most_place + 1) 0), ap (λ (Q : List ℕ). entered Q c.args.list.now) zeros)
-
-pub bounds-amounts-place : goal.bounds-amounts-place
-bounds-amounts-place c =
-    omega (
-      arith,
-      good_place_lem (good_lines_lem most_place c.args.list.now c.requires.fact_1) c.loop-i.i (omega arith)
-          (omega arith),
+    let all : chunks_exact_rest c.into_iter-line-iterator.result ≡ c.args.list.now = cc in (
+      search rules,
+      rw zeros (length-replicate {A = ℕ} (most_place + 1) 0),
+      rw all (good_lines_lem most_place c.args.list.now c.requires.fact_1),
+      rw (all, zeros),
     )
 
-pub loop-i-preserved : goal.loop-i-preserved
-loop-i-preserved c =
-    let l = c.args.list.now in
-    let i = c.loop-i.i in (
-      omega arith,
-      omega arith,
-      rw length-set c.loop-i.invariant.2,
-      rw c.wide16-place.ensures.0
-          (sym (entered_line c.loop-i.amounts l i (omega arith)) ∙ c.loop-i.invariant.3),
+pub bounds-amounts-from : goal.bounds-amounts-from
+bounds-amounts-from c =
+    let i = c.loop-line.invariant in
+    let g = good_first (rw (line_first _ _ _ _ i.0 c.in-Some.ensures.steps.1) at i.2) in
+    omega arith
+
+pub loop-line-preserved : goal.loop-line-preserved
+loop-line-preserved c =
+    let i = c.loop-line.invariant in
+    let s = c.in-Some.ensures.steps in
+    let first = line_first _ _ _ _ i.0 s.1 in
+    let g = good_first (rw first at i.2) in (
+      s.0 ∙ i.0,
+      rw length-set i.1,
+      good_wider (omega arith) (omega arith) g.1,
+      rw c.from.ensures (sym (entered_first c.loop-line.amounts _ _ _ first) ∙ i.3),
     )
 
 pub returns : goal.returns
 returns c =
     let l = c.args.list.now in
-    sym (entered_end c.loop-i.amounts l c.loop-i.i (omega arith)) ∙ c.loop-i.invariant.3 ∙ entered_all l
+    let s = c.in-None.ensures.steps in
+    sym (entered_short c.loop-line.amounts (chunks_exact_rest c.loop-line.line-iterator) (omega arith)) ∙ c.loop-line.invariant.3 ∙ entered_all l
     (good_lines_lem most_place l c.requires.fact_1)

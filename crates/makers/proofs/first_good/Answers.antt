@@ -1,30 +1,18 @@
--- The slots passed are zero or good, so the rest answer for all; the first that is neither refuses them.
-use mathlib.Core.Bool.{not}
-use mathlib.Core.Path.{ap}
+-- `all` looks at each of the first m slots.
+use mathlib.Core.Path.{refl, ap, ◌∙◌}
 use native.Mathlib.Omega.{arith}
-use native.Mathlib.Nat.{sub-zero}
-use Rattle.ground.proofs.Laws.{all_from_no, all_from_yes, all_from_end}
-use Rattle.register.proofs.Answers.{tested_no, tested_yes}
+use borrow.Author.Rules.{rules}
+use borrow.Author.Tests.{tests}
+use Rattle.std.proofs.lemmas.Iterator.{YieldsList-from_range}
+use Rattle.std.proofs.lemmas.Iterator.Search.{all_from_yields_List}
+use Rattle.ground.specs.Lists.{allb}
+use Rattle.ground.proofs.Methods.{all_is, range_is}
 use Rattle.makers.specs.Makers.{zero_or_good}
 use Rattle.makers.proofs.first_good.Goals as goal
 
-pub loop-k-init : goal.loop-k-init
-loop-k-init c = (omega arith, c.requires, rw sub-zero)
-
-pub returns-then-not-zero_or_good : goal.returns-then-not-zero_or_good
-returns-then-not-zero_or_good c =
-    cc (all_from_no c.args.m c.loop-k.k c.loop-k-test.true (zero_or_good c.args.makers.now)
-    (tested_no c.zero_or_good.ensures (ap not c.if-not-zero_or_good.true)))
-
-pub loop-k-preserved : goal.loop-k-preserved
-loop-k-preserved c = (
-  omega arith,
-  c.loop-k.invariant.1,
-  cc
-      (all_from_yes c.args.m c.loop-k.k c.loop-k-test.true (zero_or_good c.args.makers.now)
-      (tested_yes c.zero_or_good.ensures (ap not c.if-not-zero_or_good.false))),
-)
-
 pub returns : goal.returns
 returns c =
-    cc (all_from_end c.args.m c.loop-k.k c.loop-k-test.false (zero_or_good c.args.makers.now))
+    let p = zero_or_good c.args.makers.now in
+    all_from_yields_List p _ _ _ c.all.ensures.ran (YieldsList-from_range 0 c.args.m c.args.m refl (omega arith)) (λ x b q k. search (rules, tests))
+    ∙ all_is p _
+    ∙ ap (allb p) (range_is 0 c.args.m)

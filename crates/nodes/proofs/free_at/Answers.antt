@@ -1,30 +1,22 @@
--- The words looked at are 0; the answer for the rest is the answer for all.
-use Rattle.nodes.proofs.Fields.{zero_yes, zero_no}
-use mathlib.Core.Path.{sym}
-use native.Mathlib.Omega.{arith}
-use Rattle.ground.proofs.Laws.{all_from_no, all_from_yes, all_from_end}
-use Rattle.nodes.specs.Nodes.{words_per_node, zero_word}
-use Rattle.nodes.proofs.Fields.{root_not_free, free_is_zeros}
+-- All words of a node other than the root are 0.
+use Rattle.std.proofs.Common.{◌≡◌, ◌∙◌, ◌+◌, ◌-◌, ◌*◌, sym, eqb, take, drop, rules, arith}
+use Rattle.std.proofs.lemmas.Bool.Decides.{nat_tests}
+use Rattle.std.proofs.lemmas.Iterator.{YieldsList-from_slice}
+use Rattle.std.proofs.lemmas.Iterator.Search.{all_from_yields_List}
+use borrow.Author.Tests.{tests}
+use Rattle.nodes.specs.Nodes.{is_free}
+use Rattle.nodes.proofs.Fields.{free_is_zeros, words_zero}
 use Rattle.nodes.proofs.free_at.Goals as goal
 
-pub returns-then-i-eq0 : goal.returns-then-i-eq0
-returns-then-i-eq0 c = sym (root_not_free _ _ c.if-i-eq0.true)
+pub returns-then-i-ne0 : goal.returns-then-i-ne0
+returns-then-i-ne0 c =
+    let N = c.args.nodes.now in
+    let i = c.args.i in
+    let e : i * 7 + 7 - i * 7 ≡ 7 = omega arith in
+    let words = take (i * 7 + 7 - i * 7) (drop (i * 7) N) in
+    all_from_yields_List (λ x. eqb x 0) _ _ _ c.all.ensures.ran (YieldsList-from_slice words cc) (λ x b q k. search (rules, tests))
+    ∙ rw e (words_zero N i c.requires ∙ sym (free_is_zeros N i c.if-i-ne0.true))
 
-pub loop-k-init : goal.loop-k-init
-loop-k-init c = (omega arith, sym (free_is_zeros _ _ c.if-i-eq0.false))
-
-pub returns-then-nodes-i-ne0 : goal.returns-then-nodes-i-ne0
-returns-then-nodes-i-ne0 c =
-    cc (all_from_no words_per_node c.loop-k.k c.loop-k-test.true
-    (zero_word c.args.nodes.now c.args.i) (zero_no _ _ _ c.if-nodes-i-ne0.true))
-
-pub loop-k-preserved : goal.loop-k-preserved
-loop-k-preserved c = (
-  omega arith,
-  cc (all_from_yes words_per_node c.loop-k.k c.loop-k-test.true
-      (zero_word c.args.nodes.now c.args.i) (zero_yes _ _ _ c.if-nodes-i-ne0.false)),
-)
-
-pub returns : goal.returns
-returns c =
-    cc (all_from_end words_per_node c.loop-k.k c.loop-k-test.false (zero_word c.args.nodes.now c.args.i))
+pub returns-else-i-ne0 : goal.returns-else-i-ne0
+unfolding is_free
+returns-else-i-ne0 c = grind (arith, nat_tests)

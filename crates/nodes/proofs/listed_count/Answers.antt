@@ -5,8 +5,8 @@ use Rattle.nodes.proofs.listed_count.Goals as goal
 
 pub overflow_sub-result : goal.overflow_sub-result
 overflow_sub-result c =
-    omega (arith, own_and_listed c.requires c.tag_at-own.ensures c.tally_at.ensures)
+    omega (arith, c.from.ensures, own_and_listed c.requires c.tag_at-own.ensures c.tally_at.ensures)
 
 pub returns : goal.returns
 returns c =
-    omega (arith, own_and_listed c.requires c.tag_at-own.ensures c.tally_at.ensures)
+    omega (arith, c.from.ensures, own_and_listed c.requires c.tag_at-own.ensures c.tally_at.ensures)

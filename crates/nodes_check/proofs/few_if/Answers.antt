@@ -7,7 +7,7 @@ returns-then-l-eq0 c = last_free c.label_at-l.ensures c.if-l-eq0.true
 
 pub label_at-requires : goal.label_at-requires
 label_at-requires c =
-    child_inside c.label_at-l.ensures c.child_at.ensures.0 c.requires.fact_1 c.requires.fact_2
+    child_inside c.label_at-l.ensures c.child_at.ensures.0 c.requires.links c.requires.node
 
 pub returns-then-label_at-l : goal.returns-then-label_at-l
 returns-then-label_at-l c =

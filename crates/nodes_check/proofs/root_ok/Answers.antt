@@ -1,26 +1,17 @@
--- Four words, each 0; the last one decides.
-use mathlib.Core.Path.{sym, ◌∙◌}
-use native.Mathlib.Omega.{arith}
-use Rattle.ground.specs.Inner.{fails}
-use Rattle.nodes_check.proofs.Answers.{says_eq}
+-- Four words, each 0.
+use Rattle.std.proofs.Common.{arith}
+use Rattle.std.proofs.lemmas.Bool.Decides.{nat_tests}
+use Rattle.nodes_check.proofs.Answers.{says_at}
 use Rattle.nodes_check.proofs.root_ok.Goals as goal
 
-pub returns-then-parent_at-ne0 : goal.returns-then-parent_at-ne0
-returns-then-parent_at-ne0 c = fails (λ g. omega (arith, g.no_parent, c.parent_at.ensures.0, c.if-parent_at-ne0.true))
+pub returns-then-label_at-eq0 : goal.returns-then-label_at-eq0
+returns-then-label_at-eq0 c =
+    says_at _ (λ e. record {
+      no_parent = grind (arith, nat_tests);
+      no_next = grind (arith, nat_tests);
+      no_label = grind (arith, nat_tests);
+      no_depth = grind (arith, nat_tests);
+    }) (λ e g. grind (arith, nat_tests))
 
-pub returns-then-next_at-ne0 : goal.returns-then-next_at-ne0
-returns-then-next_at-ne0 c = fails (λ g. omega (arith, g.no_next, c.next_at.ensures.0, c.if-next_at-ne0.true))
-
-pub returns-then-label_at-ne0 : goal.returns-then-label_at-ne0
-returns-then-label_at-ne0 c = fails (λ g. omega (arith, g.no_label, c.label_at.ensures, c.if-label_at-ne0.true))
-
-pub returns : goal.returns
-returns c =
-    says_eq _ _
-    (λ e. record {
-      no_parent = sym c.parent_at.ensures.0 ∙ c.if-parent_at-ne0.false;
-      no_next = sym c.next_at.ensures.0 ∙ c.if-next_at-ne0.false;
-      no_label = sym c.label_at.ensures ∙ c.if-label_at-ne0.false;
-      no_depth = sym c.depth_at.ensures.0 ∙ e;
-    })
-    (λ g. c.depth_at.ensures.0 ∙ g.no_depth)
+pub returns-else-label_at-eq0 : goal.returns-else-label_at-eq0
+returns-else-label_at-eq0 c = says_at _ (λ e. absurd (grind (arith, nat_tests))) (λ e g. grind (arith, nat_tests))

@@ -1,18 +1,17 @@
--- Those passed are right by themselves; the first that is not refuses the table.
-use Rattle.nodes_check.proofs.Answers.{pass_start, pass_inside, pass_refuses, pass_on, pass_end}
+-- Every node is asked, up to the first that is refused.
+use Rattle.std.proofs.Common.{refl, rules, arith}
+use Rattle.std.proofs.lemmas.Iterator.{cases_from_all, serves_from_Range, YieldsList-from_range}
+use borrow.Author.Tests.{tests}
+use Rattle.nodes_check.specs.Inner.{Spot}
+use Rattle.nodes_check.proofs.Answers.{says_yes, says_no, each_says}
 use Rattle.nodes_check.proofs.spots_ok.Goals as goal
 
-pub loop-i-init : goal.loop-i-init
-loop-i-init c = search pass_start
-
-pub spot_ok-requires : goal.spot_ok-requires
-spot_ok-requires c = search pass_inside
-
-pub returns-then-not-spot_ok : goal.returns-then-not-spot_ok
-returns-then-not-spot_ok c = search pass_refuses
-
-pub loop-i-preserved : goal.loop-i-preserved
-loop-i-preserved c = search pass_on
+pub all-requires : goal.all-requires
+all-requires c = record { can = tt; finite = tt; callable = serves_from_Range (λ x q k. search (rules, tests)) (λ x low high. search rules) }
 
 pub returns : goal.returns
-returns c = search pass_end
+returns c =
+    let P = Spot c.args.parts c.args.nodes.now in
+    each_says c.all.result c.node_count.result c.node_count.ensures
+    (cases_from_all _ _ _ P (λ i. P i → ⊥) c.all.ensures.ran (YieldsList-from_range 0 c.node_count.result c.node_count.result refl (omega arith))
+    (λ x q k. search (rules, says_yes)) (λ x q k. search (rules, says_no)))

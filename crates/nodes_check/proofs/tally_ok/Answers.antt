@@ -8,8 +8,8 @@ use Rattle.nodes_check.proofs.tally_ok.Goals as goal
 
 pub overflow_add-result : goal.overflow_add-result
 overflow_add-result c =
-    omega (arith, byte_small (not (eqb c.tag_at.result 0)), c.requires.fact_3)
+    omega (arith, c.from-own.ensures, byte_small (not (eqb c.tag_at.result 0)), c.requires.bounded)
 
 pub returns : goal.returns
 returns c =
-    tally_told _ _ c.tag_at.ensures (c.wide16.ensures.0 ∙ c.tally_at.ensures) c.requires.fact_2
+    rw c.from-own.ensures (tally_told _ _ c.tag_at.ensures (c.from.ensures ∙ c.tally_at.ensures) c.requires.chain)

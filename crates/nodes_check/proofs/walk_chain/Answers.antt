@@ -5,10 +5,10 @@ use Rattle.nodes_check.proofs.Chains.{along_start, along_more, along_next, along
 use Rattle.nodes_check.proofs.walk_chain.Goals as goal
 
 pub loop-at-init : goal.loop-at-init
-loop-at-init c = along_start c.requires.fact_1 c.requires.fact_2
+loop-at-init c = along_start c.requires.siblings c.requires.live
 
-pub next_at-s-requires : goal.next_at-s-requires
-next_at-s-requires c = (c.loop-at.invariant.live (omega (arith, c.loop-at-test.true))).inside
+pub next_at-at-requires : goal.next_at-at-requires
+next_at-at-requires c = (c.loop-at.invariant.live (omega (arith, c.loop-at-test.true))).inside
 
 pub tally_at-requires : goal.tally_at-requires
 tally_at-requires c = (c.loop-at.invariant.live (omega (arith, c.loop-at-test.true))).inside
@@ -18,24 +18,24 @@ overflow_add-sum c =
     omega (
       arith,
       c.loop-at.invariant.bounded,
-      along_more c.requires.fact_1 c.loop-at.invariant (omega (arith, c.loop-at-test.true)),
-      c.requires.fact_3,
-      c.wide16-sum.ensures.1,
+      along_more c.requires.siblings c.loop-at.invariant (omega (arith, c.loop-at-test.true)),
+      c.requires.few_nodes,
+      c.from-sum.ensures,
     )
 
 pub overflow_add-k : goal.overflow_add-k
 overflow_add-k c =
-    omega (arith, along_more c.requires.fact_1 c.loop-at.invariant (omega (arith, c.loop-at-test.true)))
+    omega (arith, along_more c.requires.siblings c.loop-at.invariant (omega (arith, c.loop-at-test.true)))
 
 pub loop-at-smaller : goal.loop-at-smaller
 loop-at-smaller c =
-    along_less c.requires.fact_1 c.loop-at.invariant (omega (arith, c.loop-at-test.true)) c.next_at-s.ensures.0
+    along_less c.requires.siblings c.loop-at.invariant (omega (arith, c.loop-at-test.true)) c.next_at-at.ensures.0
 
 pub loop-at-preserved : goal.loop-at-preserved
 loop-at-preserved c =
-    along_next c.requires.fact_1 c.loop-at.invariant (omega (arith, c.loop-at-test.true)) c.next_at-s.ensures.0
-    (c.wide16-sum.ensures.0 ∙ c.tally_at.ensures) c.wide16-sum.ensures.1
+    along_next c.requires.siblings c.loop-at.invariant (omega (arith, c.loop-at-test.true)) c.next_at-at.ensures.0
+    (c.from-sum.ensures ∙ c.tally_at.ensures) (omega arith)
 
 pub returns : goal.returns
 returns c =
-    along_end c.requires.fact_1 c.loop-at.invariant c.loop-at-test.false c.requires.fact_3
+    along_end c.requires.siblings c.loop-at.invariant c.loop-at-test.false c.requires.few_nodes

@@ -1,7 +1,6 @@
 -- The measure is the rank, as of the question's walk. What the walk knows at the node that it reached is `MeetsList`.
 use mathlib.Core.Path.{refl}
 use lib.ListN.{get_or}
-use native.Mathlib.Omega.{arith}
 use Rattle.questions.specs.Inner.{wanting}
 use Rattle.questions.proofs.Asked.{in_table}
 use Rattle.pages.proofs.After.{after_ended, after_unreached, reached_inside, after_greater}
@@ -29,25 +28,9 @@ m t c =
       };
     }
 
-pub first_containing-requires : goal.first_containing-requires
-first_containing-requires t c =
-    c.requires.0
-
 pub returns-then-d-row : goal.returns-then-d-row
 returns-then-d-row t c =
     after_ended (beside_list c.requires.0 c.requires.1) c.if-d-row.true c.first_containing.ensures
-
-pub bounds-row-d : goal.bounds-row-d
-bounds-row-d t c =
-    let n = c.if-d-row.false in
-    omega (arith, c.requires.1.inside)
-
-pub reach-at-requires : goal.reach-at-requires
-reach-at-requires t c =
-    record {
-      fact_1 = c.requires.0.shape;
-      fact_2 = c.requires.0.asks.live;
-    }
 
 pub returns-then-at-eq0 : goal.returns-then-at-eq0
 returns-then-at-eq0 t c =
@@ -63,15 +46,12 @@ first_containing-requires-then-place-label t c =
 
 pub returns-then-place-label : goal.returns-then-place-label
 returns-then-place-label t c =
-    after_greater (m t (goal.at.returns-then-place-label t c).After-label_at-label).meets c.if-place-label.true c.first_containing-then-place-label.ensures
+    let known = goal.at.returns-then-place-label t c in
+    after_greater (m t known.After-label_at-label).meets c.if-place-label.true c.first_containing-then-place-label.ensures
 
 pub returns-then-due-label : goal.returns-then-due-label
 returns-then-due-label t c =
     over_list (m t (goal.at.returns-then-due-label t c).After-label_at-label) c.if-due-label.true
-
-pub want_after-then-requires : goal.want_after-then-requires
-want_after-then-requires t c =
-    c.requires.0.wants.inside
 
 pub child_at-child-requires : goal.child_at-child-requires
 child_at-child-requires t c =
@@ -79,11 +59,13 @@ child_at-child-requires t c =
 
 pub after_containing-below-requires : goal.after_containing-below-requires
 after_containing-below-requires t c =
-    to_child_list (m t (goal.at.after_containing-below-requires t c).After-label_at-label) c.if-due-label.false c.want_after-then.ensures c.if-place-label.false c.child_at-child.ensures.0
+    let known = goal.at.after_containing-below-requires t c in
+    to_child_list (m t known.After-label_at-label) c.if-due-label.false c.want_after-then.ensures c.if-place-label.false c.child_at-child.ensures.0
 
 pub returns-then-below-ne0 : goal.returns-then-below-ne0
 returns-then-below-ne0 t c =
-    below_list (m t (goal.at.returns-then-below-ne0 t c).After-label_at-label) c.if-due-label.false c.want_after-then.ensures c.if-place-label.false
+    let known = goal.at.returns-then-below-ne0 t c in
+    below_list (m t known.After-label_at-label) c.if-due-label.false c.want_after-then.ensures c.if-place-label.false
     c.child_at-child.ensures.0 c.after_containing-below.ensures c.if-below-ne0.true
 
 pub next_at-requires : goal.next_at-requires

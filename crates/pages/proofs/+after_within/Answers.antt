@@ -1,9 +1,8 @@
 -- The measure is the rank, as of the question's walk. What the walk knows at the node that it reached is `MeetsBin`.
 use mathlib.Core.Path.{refl}
 use lib.ListN.{get_or}
-use native.Mathlib.Omega.{arith}
-use Rattle.questions.proofs.Asked.{inside, small}
-use Rattle.questions.proofs.Within.{met}
+use Rattle.questions.proofs.Asked.{inside}
+use Rattle.questions.proofs.BinWalk.{met}
 use Rattle.pages.proofs.After.{after_ended, after_unreached, reached_inside, after_greater}
 use Rattle.pages.proofs.AfterWithin.{beside_bin, MeetsBin, seen_bin, next_bin, used_up, to_child_bin, below_bin, behind_bin}
 use Prim.Native.Nat.{ℕ}
@@ -29,25 +28,9 @@ m t c =
       };
     }
 
-pub first_within-requires : goal.first_within-requires
-first_within-requires t c =
-    c.requires.0
-
 pub returns-then-d-row : goal.returns-then-d-row
 returns-then-d-row t c =
     after_ended (beside_bin c.requires.0 c.requires.1) c.if-d-row.true c.first_within.ensures
-
-pub bounds-row-d : goal.bounds-row-d
-bounds-row-d t c =
-    let n = c.if-d-row.false in
-    omega (arith, c.requires.1.inside)
-
-pub reach-at-requires : goal.reach-at-requires
-reach-at-requires t c =
-    record {
-      fact_1 = c.requires.0.shape;
-      fact_2 = c.requires.0.asks.live;
-    }
 
 pub returns-then-at-eq0 : goal.returns-then-at-eq0
 returns-then-at-eq0 t c =
@@ -63,11 +46,8 @@ first_within-requires-then-place-label t c =
 
 pub returns-then-place-label : goal.returns-then-place-label
 returns-then-place-label t c =
-    after_greater (m t (goal.at.returns-then-place-label t c).After-label_at-label).meets c.if-place-label.true c.first_within-then-place-label.ensures
-
-pub quantity-requires : goal.quantity-requires
-quantity-requires t c =
-    small (met (seen_bin (m t (goal.at.quantity-requires t c).After-label_at-label)))
+    let known = goal.at.returns-then-place-label t c in
+    after_greater (m t known.After-label_at-label).meets c.if-place-label.true c.first_within-then-place-label.ensures
 
 pub child_at-requires : goal.child_at-requires
 child_at-requires t c =
@@ -75,12 +55,14 @@ child_at-requires t c =
 
 pub after_within-below-requires : goal.after_within-below-requires
 after_within-below-requires t c =
-    to_child_bin (m t (goal.at.after_within-below-requires t c).After-label_at-label) c.quantity.ensures c.had_of-came.ensures c.if-came-quantity.true c.if-place-label.false
+    let known = goal.at.after_within-below-requires t c in
+    to_child_bin (m t known.After-label_at-label) c.quantity.ensures c.had_of-came.ensures c.if-came-quantity.true c.if-place-label.false
     c.child_at.ensures.0
 
 pub returns-then-below-ne0 : goal.returns-then-below-ne0
 returns-then-below-ne0 t c =
-    below_bin (m t (goal.at.returns-then-below-ne0 t c).After-label_at-label) c.quantity.ensures c.had_of-came.ensures c.if-came-quantity.true c.if-place-label.false
+    let known = goal.at.returns-then-below-ne0 t c in
+    below_bin (m t known.After-label_at-label) c.quantity.ensures c.had_of-came.ensures c.if-came-quantity.true c.if-place-label.false
     c.child_at.ensures.0 c.after_within-below.ensures c.if-below-ne0.true
 
 pub next_at-requires : goal.next_at-requires
@@ -94,11 +76,12 @@ first_within-requires-2 t c =
 -- what is behind, where nothing below passes or the label is used up
 pub returns : goal.returns
 returns t c =
+    let known = goal.at.returns t c in
     elim c.if-came-quantity.branch [
       | then-came-quantity+else-below-ne0 w ↦
-          behind_bin (m t (goal.at.returns t c).After-label_at-label) c.quantity.ensures c.had_of-came.ensures w.if-came-quantity.true c.if-place-label.false
+          behind_bin (m t known.After-label_at-label) c.quantity.ensures c.had_of-came.ensures w.if-came-quantity.true c.if-place-label.false
           w.child_at.ensures.0 w.after_within-below.ensures w.if-below-ne0.false c.next_at.ensures.0 c.first_within-2.ensures
       | else-came-quantity w ↦
-          used_up (m t (goal.at.returns t c).After-label_at-label) c.quantity.ensures c.had_of-came.ensures c.if-place-label.false w.if-came-quantity.false
+          used_up (m t known.After-label_at-label) c.quantity.ensures c.had_of-came.ensures c.if-place-label.false w.if-came-quantity.false
           c.next_at.ensures.0 c.first_within-2.ensures
     ]

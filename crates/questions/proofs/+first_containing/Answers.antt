@@ -2,9 +2,9 @@
 -- `Entered` once it goes below.
 use mathlib.Core.Path.{refl}
 use Rattle.questions.specs.Inner.{covers, wanting}
-use Rattle.questions.proofs.Asked.{asks_inside, none_at, no_first, found_own, found_below, found_behind}
-use Rattle.questions.proofs.Asked.{in_table, past, behind, to_later}
-use Rattle.questions.proofs.Containing.{SeenIn, seen, Entered, entered, to_child}
+use Rattle.questions.proofs.Asked.{none_at, no_first, found_own, found_below, found_behind}
+use Rattle.questions.proofs.Asked.{past, behind, to_later}
+use Rattle.questions.proofs.ListWalk.{SeenIn, seen, Entered, entered, to_child}
 use Prim.Native.Nat.{ℕ}
 use Rattle.questions.proofs.+first_containing.Goals as goal
 use Rattle.questions.proofs.+first_containing.Goals.{After-label_at-label, After-tag_if_there}
@@ -31,39 +31,20 @@ pub returns-then-at-eq0 : goal.returns-then-at-eq0
 returns-then-at-eq0 t c =
     no_first (none_at c.requires.shape (covers c.args.list.now) c.if-at-eq0.true)
 
-pub label_at-label-requires : goal.label_at-label-requires
-label_at-label-requires t c =
-    asks_inside c.requires.asks c.if-at-eq0.false
-
 pub returns-then-due-label : goal.returns-then-due-label
 returns-then-due-label t c =
     no_first (past (v t (goal.at.returns-then-due-label t c).After-label_at-label) c.if-due-label.true)
-
-pub want_after-then-requires : goal.want_after-then-requires
-want_after-then-requires t c =
-    c.requires.wants.inside
-
-pub tag_if_there-requires : goal.tag_if_there-requires
-tag_if_there-requires t c =
-    in_table (v t (goal.at.tag_if_there-requires t c).After-label_at-label)
 
 pub returns-then-tag_if_there-ne0 : goal.returns-then-tag_if_there-ne0
 returns-then-tag_if_there-ne0 t c =
     found_own (entered (e t (goal.at.returns-then-tag_if_there-ne0 t c).After-tag_if_there)) c.if-tag_if_there-ne0.true
 
-pub child_at-child-requires : goal.child_at-child-requires
-child_at-child-requires t c =
-    in_table (v t (goal.at.child_at-child-requires t c).After-label_at-label)
-
-pub later-next-requires : goal.later-next-requires
-later-next-requires t c =
-    in_table (v t (goal.at.later-next-requires t c).After-label_at-label)
-
 pub returns-then-next-eq0 : goal.returns-then-next-eq0
 returns-then-next-eq0 t c =
-    found_behind (entered (e t (goal.at.returns-then-next-eq0 t c).After-tag_if_there)) c.if-tag_if_there-ne0.false c.child_at-child.ensures.0
+    let known = goal.at.returns-then-next-eq0 t c in
+    found_behind (entered (e t known.After-tag_if_there)) c.if-tag_if_there-ne0.false c.child_at-child.ensures.0
     (no_first (none_at c.requires.shape (covers c.args.list.now) c.if-child-eq0.true)) refl
-    (behind (v t (goal.at.returns-then-next-eq0 t c).After-label_at-label) c.later-next.ensures) (no_first (none_at c.requires.shape (covers c.args.list.now) c.if-next-eq0.true))
+    (behind (v t known.After-label_at-label) c.later-next.ensures) (no_first (none_at c.requires.shape (covers c.args.list.now) c.if-next-eq0.true))
 
 pub first_containing-requires : goal.first_containing-requires
 first_containing-requires t c =
@@ -71,9 +52,10 @@ first_containing-requires t c =
 
 pub returns-then-child-eq0 : goal.returns-then-child-eq0
 returns-then-child-eq0 t c =
-    found_behind (entered (e t (goal.at.returns-then-child-eq0 t c).After-tag_if_there)) c.if-tag_if_there-ne0.false c.child_at-child.ensures.0
+    let known = goal.at.returns-then-child-eq0 t c in
+    found_behind (entered (e t known.After-tag_if_there)) c.if-tag_if_there-ne0.false c.child_at-child.ensures.0
     (no_first (none_at c.requires.shape (covers c.args.list.now) c.if-child-eq0.true)) refl
-    (behind (v t (goal.at.returns-then-child-eq0 t c).After-label_at-label) c.later-next.ensures) c.first_containing.ensures
+    (behind (v t known.After-label_at-label) c.later-next.ensures) c.first_containing.ensures
 
 pub first_containing-below-requires : goal.first_containing-below-requires
 first_containing-below-requires t c =
@@ -81,14 +63,16 @@ first_containing-below-requires t c =
 
 pub returns-then-below-ne0 : goal.returns-then-below-ne0
 returns-then-below-ne0 t c =
-    found_below (entered (e t (goal.at.returns-then-below-ne0 t c).After-tag_if_there)) c.if-tag_if_there-ne0.false c.child_at-child.ensures.0 c.first_containing-below.ensures
+    let known = goal.at.returns-then-below-ne0 t c in
+    found_below (entered (e t known.After-tag_if_there)) c.if-tag_if_there-ne0.false c.child_at-child.ensures.0 c.first_containing-below.ensures
     c.if-below-ne0.true
 
 pub returns-then-next-eq0-2 : goal.returns-then-next-eq0-2
 returns-then-next-eq0-2 t c =
-    found_behind (entered (e t (goal.at.returns-then-next-eq0-2 t c).After-tag_if_there)) c.if-tag_if_there-ne0.false c.child_at-child.ensures.0
+    let known = goal.at.returns-then-next-eq0-2 t c in
+    found_behind (entered (e t known.After-tag_if_there)) c.if-tag_if_there-ne0.false c.child_at-child.ensures.0
     c.first_containing-below.ensures c.if-below-ne0.false
-    (behind (v t (goal.at.returns-then-next-eq0-2 t c).After-label_at-label) c.later-next.ensures) (no_first (none_at c.requires.shape (covers c.args.list.now) c.if-next-eq0-2.true))
+    (behind (v t known.After-label_at-label) c.later-next.ensures) (no_first (none_at c.requires.shape (covers c.args.list.now) c.if-next-eq0-2.true))
 
 pub first_containing-requires-2 : goal.first_containing-requires-2
 first_containing-requires-2 t c =
@@ -96,6 +80,7 @@ first_containing-requires-2 t c =
 
 pub returns : goal.returns
 returns t c =
-    found_behind (entered (e t (goal.at.returns t c).After-tag_if_there)) c.if-tag_if_there-ne0.false c.child_at-child.ensures.0
+    let known = goal.at.returns t c in
+    found_behind (entered (e t known.After-tag_if_there)) c.if-tag_if_there-ne0.false c.child_at-child.ensures.0
     c.first_containing-below.ensures c.if-below-ne0.false
-    (behind (v t (goal.at.returns t c).After-label_at-label) c.later-next.ensures) c.first_containing-2.ensures
+    (behind (v t known.After-label_at-label) c.later-next.ensures) c.first_containing-2.ensures

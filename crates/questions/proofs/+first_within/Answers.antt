@@ -2,8 +2,8 @@
 -- knows at a node is `SeenIn`, and `Entered` once it goes below.
 use mathlib.Core.Path.{refl, ◌∙◌}
 use Rattle.questions.specs.Inner.{fits}
-use Rattle.questions.proofs.Asked.{asks_inside, inside, small, none_at, no_first, same_first, behind_is, found_own, found_below, found_behind}
-use Rattle.questions.proofs.Within.{came_first, SeenIn, met, past_top, to_next, skipped, Entered, entered, to_child}
+use Rattle.questions.proofs.Asked.{none_at, no_first, same_first, behind_is, found_own, found_below, found_behind}
+use Rattle.questions.proofs.BinWalk.{SeenIn, past_top, to_next, skipped, Entered, entered, to_child}
 use Prim.Native.Nat.{ℕ}
 use Rattle.questions.proofs.+first_within.Goals as goal
 use Rattle.questions.proofs.+first_within.Goals.{After-label_at-label, After-tag_at}
@@ -27,37 +27,13 @@ e t c =
       own_is = c.tag_at.ensures;
     }
 
-pub loop-at-init : goal.loop-at-init
-loop-at-init t c =
-    (came_first c.requires, refl)
-
-pub label_at-label-requires : goal.label_at-label-requires
-label_at-label-requires t c =
-    asks_inside c.loop-at.invariant.0.knows.asks c.loop-at-test.true
-
 pub returns-then-top-label : goal.returns-then-top-label
 returns-then-top-label t c =
     no_first (past_top (v t (goal.at.returns-then-top-label t c).After-label_at-label) c.if-top-label.true) ∙ c.loop-at.invariant.1
 
-pub next_at-at-requires : goal.next_at-at-requires
-next_at-at-requires t c =
-    inside (met (v t (goal.at.next_at-at-requires t c).After-label_at-label))
-
-pub quantity-requires : goal.quantity-requires
-quantity-requires t c =
-    small (met (v t (goal.at.quantity-requires t c).After-label_at-label))
-
-pub tag_at-requires : goal.tag_at-requires
-tag_at-requires t c =
-    inside (met (v t (goal.at.tag_at-requires t c).After-label_at-label))
-
 pub returns-then-tag_at-ne0 : goal.returns-then-tag_at-ne0
 returns-then-tag_at-ne0 t c =
     found_own (entered (e t (goal.at.returns-then-tag_at-ne0 t c).After-tag_at)) c.if-tag_at-ne0.true ∙ c.loop-at.invariant.1
-
-pub child_at-requires : goal.child_at-requires
-child_at-requires t c =
-    inside (met (v t (goal.at.child_at-requires t c).After-label_at-label))
 
 pub first_within-below-requires : goal.first_within-below-requires
 first_within-below-requires t c =
@@ -73,24 +49,26 @@ loop-at-smaller-else-below-ne0 t c =
     (to_next (v t (goal.at.loop-at-smaller-else-below-ne0 t c).After-label_at-label) c.next_at-at.ensures.0).0
 
 pub loop-at-preserved-else-below-ne0 : goal.loop-at-preserved-else-below-ne0
-loop-at-preserved-else-below-ne0 t c = (
-  (to_next (v t (goal.at.loop-at-preserved-else-below-ne0 t c).After-label_at-label) c.next_at-at.ensures.0).1,
-  found_behind (entered (e t (goal.at.loop-at-preserved-else-below-ne0 t c).After-tag_at)) c.if-tag_at-ne0.false c.child_at.ensures.0
-      c.first_within-below.ensures c.if-below-ne0.false (behind_is c.next_at-at.ensures.0) refl
-      ∙ c.loop-at.invariant.1,
-)
+loop-at-preserved-else-below-ne0 t c =
+    let known = goal.at.loop-at-preserved-else-below-ne0 t c in (
+      (to_next (v t known.After-label_at-label) c.next_at-at.ensures.0).1,
+      found_behind (entered (e t known.After-tag_at)) c.if-tag_at-ne0.false c.child_at.ensures.0
+          c.first_within-below.ensures c.if-below-ne0.false (behind_is c.next_at-at.ensures.0) refl
+          ∙ c.loop-at.invariant.1,
+    )
 
 pub loop-at-smaller : goal.loop-at-smaller
 loop-at-smaller t c =
     (to_next (v t (goal.at.loop-at-smaller t c).After-label_at-label) c.next_at-at.ensures.0).0
 
 pub loop-at-preserved : goal.loop-at-preserved
-loop-at-preserved t c = (
-  (to_next (v t (goal.at.loop-at-preserved t c).After-label_at-label) c.next_at-at.ensures.0).1,
-  same_first (skipped (v t (goal.at.loop-at-preserved t c).After-label_at-label) c.quantity.ensures c.had_of-came.ensures c.if-came-quantity.false
-      c.next_at-at.ensures.0) refl
-      ∙ c.loop-at.invariant.1,
-)
+loop-at-preserved t c =
+    let known = goal.at.loop-at-preserved t c in (
+      (to_next (v t known.After-label_at-label) c.next_at-at.ensures.0).1,
+      same_first (skipped (v t known.After-label_at-label) c.quantity.ensures c.had_of-came.ensures c.if-came-quantity.false
+          c.next_at-at.ensures.0) refl
+          ∙ c.loop-at.invariant.1,
+    )
 
 pub returns : goal.returns
 returns t c =

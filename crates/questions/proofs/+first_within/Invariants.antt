@@ -1,7 +1,7 @@
 use mathlib.Core.Path.{◌≡◌}
 use Rattle.nodes.specs.Inner.{rank}
 use Rattle.questions.specs.Inner.{fits, first_from}
-use Rattle.questions.proofs.Within.{CameTo}
+use Rattle.questions.proofs.BinWalk.{CameTo}
 use Rattle.questions.proofs.+first_within.Given as goal
 
 abbrev pub decreases-first_within : goal.decreases-first_within

@@ -1,6 +1,6 @@
 use Rattle.nodes.specs.Inner.{rank}
 use Rattle.questions.specs.Inner.{fits, tags_from}
-use Rattle.questions.proofs.Within.{CameTo}
+use Rattle.questions.proofs.BinWalk.{CameTo}
 use Rattle.questions.proofs.Written.{Makes}
 use Rattle.questions.proofs.+list_within.Given as goal
 

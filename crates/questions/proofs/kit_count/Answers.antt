@@ -5,4 +5,4 @@ use Rattle.questions.proofs.kit_count.Goals as goal
 
 pub returns : goal.returns
 returns c =
-    c.wide16.ensures.0 ∙ c.tally_at.ensures ∙ root_counts c.requires
+    c.from.ensures ∙ c.tally_at.ensures ∙ root_counts c.requires

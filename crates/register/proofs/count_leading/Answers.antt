@@ -1,5 +1,5 @@
--- All slots passed are used: the first unused one of the rest is the first of all.
-use mathlib.Core.Path.{◌≡◌, sym, ◌∙◌}
+-- The first unused slot of the rest is the first of all.
+use mathlib.Core.Path.{sym, ◌∙◌}
 use native.Mathlib.Omega.{arith}
 use native.Mathlib.Nat.{sub-zero}
 use Rattle.ground.proofs.Laws.{first_from_here, first_from_on, first_from_end}
@@ -10,25 +10,21 @@ use Rattle.register.proofs.count_leading.Goals as goal
 
 pub loop-k-init : goal.loop-k-init
 unfolding leading
-loop-k-init c = (omega arith, c.count_slots-n.ensures.fact_1, rw (c.count_slots-n.ensures.fact_1, sub-zero))
+loop-k-init c = (c.count_slots-n.ensures.fact_1, rw (c.count_slots-n.ensures.fact_1, sub-zero))
 
 pub returns-then-length_at-eq0 : goal.returns-then-length_at-eq0
 returns-then-length_at-eq0 c =
-    sym (first_from_here _ _ c.loop-k-test.true _ (unused_at c.args.reg.now)
-    (unused_yes _ _ (sym c.length_at.ensures.fact_1 ∙ c.if-length_at-eq0.true))) ∙ c.loop-k.invariant.2
+    let free = unused_yes c.args.reg.now c.loop-k.k (sym c.length_at.ensures.fact_1 ∙ c.if-length_at-eq0.true) in
+    sym (first_from_here _ _ c.loop-k-test.true _ (unused_at c.args.reg.now) free) ∙ c.loop-k.invariant.1
 
 pub loop-k-preserved : goal.loop-k-preserved
-loop-k-preserved c = (
-  omega arith,
-  c.loop-k.invariant.1,
-  sym
-      (first_from_on _ _ c.loop-k-test.true _ (unused_at c.args.reg.now)
-      (unused_no _ _ (λ e. c.if-length_at-eq0.false (c.length_at.ensures.fact_1 ∙ e)))) ∙ c.loop-k.invariant.2,
-)
+loop-k-preserved c =
+    let used = unused_no c.args.reg.now c.loop-k.k (λ e. c.if-length_at-eq0.false (c.length_at.ensures.fact_1 ∙ e)) in (
+      c.loop-k.invariant.0,
+      sym (first_from_on _ _ c.loop-k-test.true _ (unused_at c.args.reg.now) used) ∙ c.loop-k.invariant.1,
+    )
 
 pub returns : goal.returns
 returns c =
-    let k = c.loop-k.k in
     let n = c.count_slots-n.result in
-    let e : k ≡ n = omega arith in
-    e ∙ sym (first_from_end n k c.loop-k-test.false n (unused_at c.args.reg.now)) ∙ c.loop-k.invariant.2
+    sym (first_from_end n c.loop-k.k (omega arith) n (unused_at c.args.reg.now)) ∙ c.loop-k.invariant.1

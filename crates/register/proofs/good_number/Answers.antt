@@ -1,14 +1,16 @@
--- No bytes, or more than 24, break the rule at once; between these bounds the bytes alone decide.
+-- Where the length is allowed, the bytes decide.
 use mathlib.Core.Path.{sym, ◌∙◌}
-use native.Mathlib.Omega.{arith}
-use Rattle.register.proofs.Slots.{number_empty, number_long, number_bytes}
+use borrow.Author.Rules.{rules}
+use borrow.Author.Tests.{tests}
+use Rattle.std.proofs.lemmas.Iterator.{YieldsList-from_slice}
+use Rattle.std.proofs.lemmas.Iterator.Search.{all_from_yields_List}
+use Rattle.ground.proofs.Methods.{all_is}
+use Rattle.register.specs.Number.{good_byte}
+use Rattle.register.proofs.Slots.{number_bytes}
 use Rattle.register.proofs.good_number.Goals as goal
 
-pub returns-then-n-lt1 : goal.returns-then-n-lt1
-returns-then-n-lt1 c = sym (number_empty _ c.if-n-lt1.true)
-
-pub returns-then-n-gt-LONGEST_NUMBER : goal.returns-then-n-gt-LONGEST_NUMBER
-returns-then-n-gt-LONGEST_NUMBER c = sym (number_long _ c.if-n-gt-LONGEST_NUMBER.true)
-
-pub returns : goal.returns
-returns c = c.good_bytes.ensures ∙ sym (number_bytes _ (omega arith) (omega arith))
+pub returns-then-contains : goal.returns-then-contains
+returns-then-contains c =
+    all_from_yields_List good_byte _ _ _ c.all.ensures.ran (YieldsList-from_slice c.args.n.now cc) (λ x b q k. search (rules, tests))
+    ∙ all_is good_byte c.args.n.now
+    ∙ sym (number_bytes c.args.n.now (search (rules, tests)) (search (rules, tests)))

@@ -1,21 +1,10 @@
--- A wrong length and then an unsound register are answered so; one that passes both is ready to be looked in.
-use mathlib.Core.Path.{sym}
-use Rattle.register.specs.Inner.{Ready}
-use Rattle.register.proofs.Answers.{tested_no, tested_yes, looking_up_1, looking_up_2}
+-- What the check refuses is refused so.
+use mathlib.Core.Path.{◌∙◌}
+use Rattle.answers.proofs.Answers.{refuses, handed_reply}
+use Rattle.register.proofs.Answers.{looking_up_refused}
 use Rattle.register.proofs.look_up.Goals as goal
 
-pub returns-then-not-length_good : goal.returns-then-not-length_good
-returns-then-not-length_good c =
-    sym (looking_up_1 c.args.reg.now (search tested_no) c.args.num.now)
-
-pub register_sound-requires : goal.register_sound-requires
-register_sound-requires c = search tested_yes
-
-pub returns-then-not-register_sound : goal.returns-then-not-register_sound
-returns-then-not-register_sound c =
-    sym (looking_up_2 c.args.reg.now (search tested_yes) (search tested_no) c.args.num.now)
-
-pub look_up_in-requires : goal.look_up_in-requires
-look_up_in-requires c =
-    let r : Ready c.args.reg.now = search tested_yes in
-    r
+pub returns-in_err-check_register : goal.returns-in_err-check_register
+returns-in_err-check_register c =
+    handed_reply _ _ c.from_residual.ensures.1
+    ∙ looking_up_refused c.args.reg.now _ c.in_err-check_register.ensures.refuses (refuses _) c.args.num.now

@@ -1,11 +1,9 @@
 use mathlib.Core.Path.{◌≡◌}
-use Prim.Native.Nat.{◌≤◌, ◌-◌, ◌<◌}
-use lib.ListN.{length, drop}
+use Prim.Native.Nat.{◌<◌}
+use lib.ListN.{drop}
 use Rattle.repeats.specs.Inner.{hash_room, hash_from, hash_of}
 use Rattle.repeats.proofs.hash.Given as goal
 
-abbrev pub invariant-loop-i : goal.invariant-loop-i
-invariant-loop-i l = (l.i ≤ length l.num) × (l.h < hash_room) × (hash_from l.h (drop l.i l.num) ≡ hash_of l.num)
-
-abbrev pub decreases-loop-i : goal.decreases-loop-i
-decreases-loop-i l = length l.num - l.i
+-- the bytes passed have made h: on from there, the rest make the hash of all
+abbrev pub invariant-loop-b : goal.invariant-loop-b
+invariant-loop-b l = (l.h < hash_room) × (hash_from l.h (drop l.b-index l.num) ≡ hash_of l.num)

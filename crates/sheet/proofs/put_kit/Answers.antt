@@ -1,41 +1,40 @@
 -- With the tag and the line count down only the lines are to come.
-use mathlib.Core.Path.{refl}
-use Prim.Native.Nat.{◌+◌, ◌/◌}
+use mathlib.Core.Path.{refl, ap}
+use Prim.Native.Nat.{ℕ, ◌+◌, ◌/◌}
 use native.Mathlib.Omega.{arith}
 use lib.ListN.{length, set, length-set}
 use Rattle.ground.proofs.Put.{Rest, rest_last, put_length}
 use Rattle.ground.specs.Laid.{Put}
-use Rattle.sheet.specs.Sheet.{line_bytes, count_at, lines_at}
+use Rattle.sheet.specs.Sheet.{bytes_of, count_at, lines_at}
 use Rattle.sheet.specs.Inner.{record_bytes}
 use Rattle.sheet.proofs.Lines.{kit_going, record_long}
 use Rattle.sheet.proofs.put_kit.Goals as goal
-use Rattle.sheet.proofs.put_kit.Goals.{After-copy_in, After-put_two}
+use Rattle.sheet.proofs.put_kit.Goals.{After-copy_in, After-line_bytes}
 
-going : (c : After-put_two) →
-    Rest c.args.out.now 0 (record_bytes c.args.w c.args.tag c.args.lines.now)
-    (set c.put_two.new.out count_at (length c.args.lines.now / line_bytes c.args.w)) lines_at c.args.lines.now
+going : (c : After-line_bytes) →
+    Rest c.args.out.now 0 (record_bytes (bytes_of c.args.w) c.args.tag c.args.lines.now)
+    (set c.put_two.new.out count_at (length c.args.lines.now / c.line_bytes.result)) lines_at c.args.lines.now
 going c =
-    let w = c.args.w in
     let ls = c.args.lines.now in
-    kit_going w ls c.args.tag (length ls / line_bytes w) c.put_two.ensures refl c.requires.fact_1.1
+    kit_going (bytes_of c.args.w) ls c.args.tag _ c.put_two.ensures (ap (λ (n : ℕ). length ls / n) c.line_bytes.ensures) c.requires.1
 
 all : (c : After-copy_in) →
-    Put c.args.out.now 0 (record_bytes c.args.w c.args.tag c.args.lines.now) (lines_at + length c.args.lines.now)
+    Put c.args.out.now 0 (record_bytes (bytes_of c.args.w) c.args.tag c.args.lines.now) (lines_at + length c.args.lines.now)
     c.copy_in.new.out
 all c =
-    rest_last (going (goal.at.After-copy_in c).After-put_two) refl (record { behind = refl; lies = c.copy_in.ensures })
+    rest_last (going (goal.at.After-copy_in c).After-line_bytes) refl (record { behind = refl; lies = c.copy_in.ensures })
 
 pub put_two-requires : goal.put_two-requires
 put_two-requires c =
-    omega (arith, c.requires.fact_1.1, record_long c.args.w c.args.tag c.args.lines.now)
+    omega (arith, c.requires.1, record_long (bytes_of c.args.w) c.args.tag c.args.lines.now)
 
 pub bounds-out-2 : goal.bounds-out-2
 bounds-out-2 c =
-    omega (arith, rw length-set at (going (goal.at.bounds-out-2 c).After-put_two).room)
+    omega (arith, rw length-set at (going (goal.at.bounds-out-2 c).After-line_bytes).room)
 
 pub copy_in-requires : goal.copy_in-requires
 copy_in-requires c =
-    (going (goal.at.copy_in-requires c).After-put_two).room
+    (going (goal.at.copy_in-requires c).After-line_bytes).room
 
 pub shape_of-out : goal.shape_of-out
 shape_of-out c =

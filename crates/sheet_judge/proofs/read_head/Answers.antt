@@ -28,12 +28,10 @@ pub returns-then-s-lt-PARTS_AT : goal.returns-then-s-lt-PARTS_AT
 returns-then-s-lt-PARTS_AT c =
     no_version c.args.s.now c.if-s-lt-VERSION_AT.false (marked (goal.at.returns-then-s-lt-PARTS_AT c).Else-not-same) c.if-s-lt-PARTS_AT.true
 
-pub two_at-version-requires : goal.two_at-version-requires
-two_at-version-requires c = c.if-s-lt-PARTS_AT.false
-
 pub returns-then-not-is_version : goal.returns-then-not-is_version
 returns-then-not-is_version c =
-    bad_version c.args.s.now c.if-s-lt-VERSION_AT.false (marked (goal.at.returns-then-not-is_version c).Else-not-same) c.two_at-version.result c.two_at-version.ensures
+    bad_version c.args.s.now c.if-s-lt-VERSION_AT.false (marked (goal.at.returns-then-not-is_version c).Else-not-same)
+    c.two_at-version.result c.two_at-version.ensures
     (sym c.is_version.ensures ∙ c.if-not-is_version.true)
 
 -- a version that there is
@@ -47,12 +45,10 @@ returns-then-s-lt-HEAD c =
     no_count c.args.s.now c.if-s-lt-VERSION_AT.false (marked (goal.at.returns-then-s-lt-HEAD c).Else-not-same) c.two_at-version.result c.two_at-version.ensures
     c.if-s-lt-PARTS_AT.false (known (goal.at.returns-then-s-lt-HEAD c).Else-not-is_version) c.if-s-lt-HEAD.true
 
-pub two_at-count-requires : goal.two_at-count-requires
-two_at-count-requires c = c.if-s-lt-HEAD.false
-
 pub returns-then-not-count_ok : goal.returns-then-not-count_ok
 returns-then-not-count_ok c =
-    bad_count c.args.s.now c.if-s-lt-VERSION_AT.false (marked (goal.at.returns-then-not-count_ok c).Else-not-same) c.two_at-version.result c.two_at-version.ensures
+    bad_count c.args.s.now c.if-s-lt-VERSION_AT.false (marked (goal.at.returns-then-not-count_ok c).Else-not-same)
+    c.two_at-version.result c.two_at-version.ensures
     c.if-s-lt-PARTS_AT.false (known (goal.at.returns-then-not-count_ok c).Else-not-is_version) c.two_at-count.result c.two_at-count.ensures
     (sym c.count_ok.ensures ∙ c.if-not-count_ok.true)
 
@@ -60,4 +56,4 @@ pub returns : goal.returns
 returns c =
     headed c.args.s.now c.if-s-lt-VERSION_AT.false (marked (goal.at.returns c).Else-not-same) c.two_at-version.result c.two_at-version.ensures
     c.if-s-lt-PARTS_AT.false (known (goal.at.returns c).Else-not-is_version) c.two_at-count.result c.two_at-count.ensures c.if-s-lt-HEAD.false
-    (sym c.count_ok.ensures ∙ c.if-not-count_ok.false) c.wide16.result c.wide16.ensures.0
+    (sym c.count_ok.ensures ∙ c.if-not-count_ok.false) c.from.result c.from.ensures

@@ -13,61 +13,54 @@ use Rattle.sheet_judge.proofs.read_numbers.Goals.{After-repeats_earlier}
 
 -- this number is one of those seen just when it repeats one before it
 told : (c : After-repeats_earlier) →
-    anyb (eq_list (number_here c.args.s.now c.loop-k.at)) c.loop-k.invariant.2.seen ≡ c.repeats_earlier.result
+    anyb (eq_list (number_here c.args.s.now c.loop-k.at)) c.loop-k.invariant.0.seen ≡ c.repeats_earlier.result
 told c =
-    let N = c.loop-k.invariant.2 in
+    let N = c.loop-k.invariant.0 in
     N.same _ ∙ told_among c.args.s.now _ head_bytes c.loop-k.k c.loop-k.at
-    (offsets_on _ c.loop-k.invariant.4 (omega arith) N.ends) N.ends _ c.repeats_earlier.ensures.fact_1
+    (offsets_on _ c.loop-k.invariant.2 (omega arith) N.ends) N.ends _ c.repeats_earlier.ensures.fact_1
 
 pub loop-k-init : goal.loop-k-init
 loop-k-init c = (
-  omega arith,
-  c.requires.fact_2,
-  numbering_start c.args.s.now c.args.n c.requires.fact_1,
+  numbering_start c.args.s.now c.args.n c.requires.inside,
   omega arith,
   record { long = refl; at = λ i u. absurd (omega arith) },
   hashed_none _ _ _ refl refl (λ h. get_d_zeros hashes h),
 )
 
-pub number_end-end-requires : goal.number_end-end-requires
-number_end-end-requires c =
-    c.loop-k.invariant.2.inside
-
-pub returns-then-end-at : goal.returns-then-end-at
-returns-then-end-at c =
-    let N = c.loop-k.invariant.2 in
-    numbering_fault N (omega arith) c.loop-k.at (c.number_end-end.ensures.fact_1.stays c.if-end-at.true N.seen) refl
+pub returns-in_default : goal.returns-in_default
+returns-in_default c =
+    let N = c.loop-k.invariant.0 in
+    numbering_fault N (omega arith) (c.in_default.ensures N.seen)
 
 pub repeats_earlier-requires : goal.repeats_earlier-requires
 repeats_earlier-requires c =
-    let N = c.loop-k.invariant.2 in
+    let N = c.loop-k.invariant.0 in
     record {
       fact_1 = items_inside c.args.s.now _ head_bytes c.loop-k.k c.loop-k.at
-          (offsets_on _ c.loop-k.invariant.4 (omega arith) N.ends) N.ends (omega arith)
-          (c.number_end-end.ensures.fact_1.moves c.if-end-at.false).1;
-      fact_2 = hashed_set c.args.s.now _ _ _ c.loop-k.k _ c.loop-k.invariant.5;
+          (offsets_on _ c.loop-k.invariant.2 (omega arith) N.ends) N.ends (omega arith)
+          c.in-Some.ensures.inside;
+      fact_2 = hashed_set c.args.s.now _ _ _ c.loop-k.k _ c.loop-k.invariant.3;
     }
 
 pub returns-then-repeats_earlier : goal.returns-then-repeats_earlier
 returns-then-repeats_earlier c =
-    let N = c.loop-k.invariant.2 in
-    numbering_fault N (omega arith) c.loop-k.at
-    (number_twice c.args.s.now c.loop-k.at N.seen (c.number_end-end.ensures.fact_1.moves c.if-end-at.false).0
-    (told (goal.at.returns-then-repeats_earlier c).After-repeats_earlier ∙ c.if-repeats_earlier.true)) refl
+    let N = c.loop-k.invariant.0 in
+    numbering_fault N (omega arith)
+    (number_twice c.args.s.now c.loop-k.at N.seen c.in-Some.ensures.good
+    (told (goal.at.returns-then-repeats_earlier c).After-repeats_earlier ∙ c.if-repeats_earlier.true))
 
 pub loop-k-preserved : goal.loop-k-preserved
 loop-k-preserved c =
-    let N = c.loop-k.invariant.2 in
-    let m = c.number_end-end.ensures.fact_1.moves c.if-end-at.false in (
-      omega arith,
-      c.loop-k.invariant.1,
-      numbering_on N (omega arith) c.number_end-end.result
-          (m.2 ∙ number_taken c.args.s.now c.loop-k.at N.seen m.1 m.0 (told (goal.at.loop-k-preserved c).After-repeats_earlier ∙ c.if-repeats_earlier.false))
-          c.if-end-at.false,
-      omega (arith, c.loop-k.invariant.3, c.number_end-end.ensures.fact_2),
-      offsets_on _ c.loop-k.invariant.4 (omega arith) N.ends,
+    let N = c.loop-k.invariant.0 in
+    let m = c.in-Some.ensures in (
+      numbering_on N (omega arith) c.in-Some.end
+          (m.ends ∙ number_taken c.args.s.now c.loop-k.at N.seen m.inside m.good
+          (told (goal.at.loop-k-preserved c).After-repeats_earlier ∙ c.if-repeats_earlier.false))
+          (λ e. omega (arith, m.ends)),
+      omega (arith, c.loop-k.invariant.1, m.ends, c.type_inv.s c.loop-k.at),
+      offsets_on _ c.loop-k.invariant.2 (omega arith) N.ends,
       c.repeats_earlier.ensures.fact_2,
     )
 
 pub returns : goal.returns
-returns c = numbering_end c.loop-k.invariant.2 (omega arith)
+returns c = numbering_end c.loop-k.invariant.0 (omega arith)

@@ -1,5 +1,5 @@
-use Prim.Native.Nat.{◌+◌, ◌-◌, ◌*◌, ◌≤◌}
-use Rattle.ground.specs.Limits.{byte_limit, most_parts}
+use Prim.Native.Nat.{◌+◌, ◌*◌, ◌≤◌}
+use Rattle.ground.specs.Limits.{byte_limit}
 use Rattle.repeats.specs.Inner.{entry_of, Hashed}
 use Rattle.repeats.proofs.Repeats.{Offsets}
 use Rattle.sheet.specs.Inner.{head_bytes, end_at}
@@ -8,8 +8,5 @@ use Rattle.sheet_judge.proofs.read_numbers.Given as goal
 
 abbrev pub invariant-loop-k : goal.invariant-loop-k
 invariant-loop-k l =
-    (l.k ≤ l.n) × (l.n ≤ most_parts) × Numbering l.s l.n l.k l.at × (l.at ≤ head_bytes + byte_limit * l.k) × Offsets (end_at l.s head_bytes) l.offsets l.k
+    Numbering l.s l.n l.k l.at × (l.at ≤ head_bytes + byte_limit * l.k) × Offsets (end_at l.s head_bytes) l.offsets l.k
     × Hashed (entry_of l.s l.offsets) l.lasts l.earlier l.k
-
-abbrev pub decreases-loop-k : goal.decreases-loop-k
-decreases-loop-k l = l.n - l.k

@@ -1,15 +1,18 @@
--- Refused, the value stands in the third place; done, in the first.
-use mathlib.Core.Path.{sym, ◌∙◌}
+-- Done, the value stands in the first place; refused, in the third.
+use mathlib.Core.Path.{◌≡◌, refl, ap, ◌∙◌}
+use mathlib.Core.Bool.{true}
+use Rattle.ground.specs.Calls.{is_refused}
 use Rattle.answers.specs.Answers.{reply}
-use Rattle.sheet_read.proofs.Promised.{report_refused, report_done}
+use Rattle.answers.proofs.Answers.{refuses}
+use Rattle.sheet.specs.Calls.{report_of}
+use Rattle.sheet_read.proofs.Promised.{report_refused}
 use Rattle.sheet_read.proofs.report_of.Goals as goal
 
-pub returns-then-refused : goal.returns-then-refused
-returns-then-refused c =
-    λ k. report_refused (reply c.args.a) (record { kept = k; announced = c.args.announced; stopped = c.args.end })
-    c.reply_of-value.ensures.value (sym c.refused.ensures ∙ c.if-refused.true)
+pub returns-in-Ok : goal.returns-in-Ok
+unfolding report_of
+returns-in-Ok c = λ k. rw c.in-Ok.is refl
 
-pub returns : goal.returns
-returns c =
-    λ k. report_done (reply c.args.a) (record { kept = k; announced = c.args.announced; stopped = c.args.end })
-    c.reply_of-value.ensures.value (sym c.refused.ensures ∙ c.if-refused.false)
+pub returns-in-Err : goal.returns-in-Err
+returns-in-Err c =
+    λ k. report_refused (reply c.args.a) (record { kept = k; announced = c.args.announced; stopped = c.args.end })
+    c.reply_of.ensures.value (ap (λ a. is_refused (reply a)) c.in-Err.is ∙ refuses _)

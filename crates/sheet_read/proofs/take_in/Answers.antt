@@ -9,8 +9,8 @@ use Rattle.sheet_read.proofs.Sheets.{Salvageable, salvageable, taking_slots, tak
 use Rattle.sheet_read.proofs.take_in.Goals as goal
 use Rattle.sheet_read.proofs.take_in.Goals.{After-shared_slice_known-1, Start}
 
-good : (c : Start) → Salvageable c.args.s.now c.args.sheet c.args.run
-good c = salvageable c.args.s.now c.args.sheet c.args.run c.requires.fact_3
+good : (c : Start) → Salvageable c.args.s.now c.args.found
+good c = salvageable c.args.s.now c.args.found c.requires.found
 
 lent : (c : After-shared_slice_known-1) →
     Bytes c.args.s.now
@@ -18,13 +18,13 @@ lent c = λ i. omega (arith, c.type_inv.s i)
 
 pub returns-then-count_slots-parts : goal.returns-then-count_slots-parts
 returns-then-count_slots-parts c =
-    taking_slots (good (goal.at.returns-then-count_slots-parts c).Start) c.args.reg.now c.args.nodes.now c.wide16-parts.result
-    c.wide16-parts.ensures.0 (omega (arith, c.count_slots.ensures.fact_1))
+    taking_slots (good (goal.at.returns-then-count_slots-parts c).Start) c.args.reg.now c.args.nodes.now c.from-parts.result
+    c.from-parts.ensures (omega (arith, c.count_slots.ensures.fact_1))
 
-pub returns-then-node_count-run : goal.returns-then-node_count-run
-returns-then-node_count-run c =
-    taking_nodes (good (goal.at.returns-then-node_count-run c).Start) c.args.reg.now c.args.nodes.now
-    (omega (arith, c.count_slots.ensures.fact_1, c.wide16-parts.ensures.0))
+pub returns-then-node_count-found : goal.returns-then-node_count-found
+returns-then-node_count-found c =
+    taking_nodes (good (goal.at.returns-then-node_count-found c).Start) c.args.reg.now c.args.nodes.now
+    (omega (arith, c.count_slots.ensures.fact_1, c.from-parts.ensures))
     (omega (arith, c.node_count.ensures))
 
 pub fill-requires : goal.fill-requires
@@ -33,18 +33,18 @@ fill-requires c =
     let b = lent (goal.at.fill-requires c).After-shared_slice_known-1 in
     let R = c.args.reg.now in
     let N = c.args.nodes.now in
-    let slots : c.wide16-parts.result ≤ slot_count R = omega (arith, c.count_slots.ensures.fact_1) in
-    let nodes : c.args.run.nodes ≤ size N = omega (arith, c.node_count.ensures) in
+    let slots : c.from-parts.result ≤ slot_count R = omega (arith, c.count_slots.ensures.fact_1) in
+    let nodes : c.args.found.run.nodes ≤ size N = omega (arith, c.node_count.ensures) in
     record {
-      fact_1 = numbers_stand F R N b c.wide16-parts.result c.args.run.kept c.wide16-parts.ensures.0 refl slots nodes c.requires.fact_1;
-      fact_2 = kits_stand F R N b c.wide16-parts.result c.args.run.kept c.wide16-parts.ensures.0 refl slots nodes c.requires.fact_2;
+      numbers = numbers_stand F R N b c.from-parts.result c.args.found.run.kept c.from-parts.ensures refl slots nodes c.requires.register;
+      kits = kits_stand F R N b c.from-parts.result c.args.found.run.kept c.from-parts.ensures refl slots nodes c.requires.nodes;
     }
 
 pub returns : goal.returns
 returns c =
     let R = c.args.reg.now in
     let N = c.args.nodes.now in
-    taking_done (good (goal.at.returns c).Start) R N (lent (goal.at.returns c).After-shared_slice_known-1) c.wide16-parts.result c.args.run.kept
-    c.wide16-parts.ensures.0 refl (omega (arith, c.count_slots.ensures.fact_1))
+    taking_done (good (goal.at.returns c).Start) R N (lent (goal.at.returns c).After-shared_slice_known-1) c.from-parts.result c.args.found.run.kept
+    c.from-parts.ensures refl (omega (arith, c.count_slots.ensures.fact_1))
     (omega (arith, c.node_count.ensures)) c.fill.new.reg c.fill.new.nodes
     c.fill.result c.fill.ensures.0 c.fill.ensures.1 c.fill.ensures.2

@@ -1,11 +1,12 @@
 -- So far the bytes of the nodes before this one on the chain, each with those below it, are counted; with those of the rest they are all.
+use Rattle.sheet.specs.Sheet.{bytes_of}
 use mathlib.Core.Path.{refl, ap}
 use Prim.Native.Nat.{ℕ}
 use native.Mathlib.Omega.{arith}
 use lib.ListN.{length}
 use Rattle.sheet_write.specs.Inner.{EndsIn, end_line}
-use Rattle.sheet_write.proofs.Walked.{none_from, in_table, may_add, ends, to_child, child_falls, next_falls, parts_long}
-use Rattle.sheet_write.proofs.Walked.{along_start, along_next}
+use Rattle.sheet_write.proofs.Walked.{none_from, may_add, ends, to_child, child_falls, next_falls, parts_long}
+use Rattle.sheet_write.proofs.Walked.{along_next}
 use Rattle.sheet_write.proofs.+kits_size.Goals as goal
 use Rattle.sheet_write.proofs.+kits_size.Goals.{After-with_unit-end}
 
@@ -16,36 +17,19 @@ known : (t : ℕ) (c : After-with_unit-end t) →
 known t c =
     ends c.loop-i.invariant.0.reached c.loop-i-test.true c.label_at.ensures c.with_unit-end.ensures
 
-pub loop-i-init : goal.loop-i-init
-loop-i-init t c =
-    (along_start c.requires.0, omega arith)
-
-pub label_at-requires : goal.label_at-requires
-label_at-requires t c =
-    in_table c.loop-i.invariant.0.reached c.loop-i-test.true
-
 pub with_unit-end-requires : goal.with_unit-end-requires
 with_unit-end-requires t c =
     may_add c.loop-i.invariant.0.reached c.loop-i-test.true
 
-pub own_size-requires : goal.own_size-requires
-own_size-requires t c =
+pub own_size-requires-clause-ends : goal.own_size-requires-clause-ends
+own_size-requires-clause-ends t c =
     let k = known t c in
-    record {
-      fact_1 = k.shape;
-      fact_2 = k.used;
-      fact_3 = k.end_is;
-      fact_4 = c.requires.1.0;
-    }
+    k.end_is
 
 pub overflow_add-own : goal.overflow_add-own
 overflow_add-own t c =
-    let long = parts_long c.loop-i.invariant.0.reached c.loop-i-test.true c.args.w in
-    omega (arith, c.requires.1.1, c.loop-i.invariant.1, c.own_size.ensures, long refl refl)
-
-pub child_at-child-requires : goal.child_at-child-requires
-child_at-child-requires t c =
-    in_table c.loop-i.invariant.0.reached c.loop-i-test.true
+    let long = parts_long c.loop-i.invariant.0.reached c.loop-i-test.true (bytes_of c.args.w) in
+    omega (arith, c.requires.few, c.loop-i.invariant.1, c.own_size.ensures, long refl refl)
 
 pub kits_size-requires : goal.kits_size-requires
 kits_size-requires t c =
@@ -55,7 +39,7 @@ kits_size-requires t c =
       omega (arith, c.decreases, c.loop-i.invariant.0.later, child_falls reached n e),
       (
         to_child reached n c.label_at.ensures c.with_unit-end.ensures e,
-        (c.requires.1.0, omega (arith, c.requires.1.1, c.loop-i.invariant.1, parts_long reached n c.args.w e refl)),
+        omega (arith, c.requires.few, c.loop-i.invariant.1, parts_long reached n (bytes_of c.args.w) e refl),
       ),
     )
 
@@ -63,16 +47,12 @@ pub overflow_add-size : goal.overflow_add-size
 overflow_add-size t c =
     omega (
       arith,
-      c.requires.1.1,
+      c.requires.few,
       c.loop-i.invariant.1,
       c.own_size.ensures,
       c.kits_size.ensures,
-      parts_long c.loop-i.invariant.0.reached c.loop-i-test.true c.args.w c.child_at-child.ensures.0 refl,
+      parts_long c.loop-i.invariant.0.reached c.loop-i-test.true (bytes_of c.args.w) c.child_at-child.ensures.0 refl,
     )
-
-pub next_at-i-requires : goal.next_at-i-requires
-next_at-i-requires t c =
-    in_table c.loop-i.invariant.0.reached c.loop-i-test.true
 
 pub loop-i-smaller : goal.loop-i-smaller
 loop-i-smaller t c =
@@ -87,10 +67,10 @@ loop-i-preserved t c =
         c.loop-i.invariant.1,
         c.own_size.ensures,
         c.kits_size.ensures,
-        parts_long c.loop-i.invariant.0.reached n c.args.w c.child_at-child.ensures.0 c.next_at-i.ensures.0,
+        parts_long c.loop-i.invariant.0.reached n (bytes_of c.args.w) c.child_at-child.ensures.0 c.next_at-i.ensures.0,
       ),
     )
 
 pub returns : goal.returns
 returns t c =
-    omega (arith, c.loop-i.invariant.1, ap length (none_from c.args.w c.loop-i.invariant.0.reached c.loop-i-test.false))
+    omega (arith, c.loop-i.invariant.1, ap length (none_from (bytes_of c.args.w) c.loop-i.invariant.0.reached c.loop-i-test.false))

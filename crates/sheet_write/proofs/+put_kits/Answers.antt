@@ -1,14 +1,15 @@
 -- What is still to come is what the rest of the chain sets down: a node's own record, and those below it, come first. The lines of the row above
 -- stand while they are written, and thereafter.
+use Rattle.sheet.specs.Sheet.{bytes_of}
 use mathlib.Core.Path.{refl, ap, sym}
 use mathlib.Core.List.{◌++◌}
 use native.Mathlib.Omega.{arith}
-use Rattle.ground.proofs.Put.{Rest, rest_start, rest_same, rest_room, rest_put, rest_end}
+use Rattle.ground.proofs.Put.{Rest, rest_same, rest_room, rest_put, rest_end}
 use Rattle.nodes.specs.Nodes.{child, next}
 use Rattle.sheet_write.specs.Inner.{EndsIn, end_line, own_record, records_from}
 use Rattle.sheet_write.proofs.Carried.{kept_on}
-use Rattle.sheet_write.proofs.Walked.{none_from, in_table, may_add, ends, further, to_child, child_falls, next_falls, parts_are}
-use Rattle.sheet_write.proofs.Walked.{along_start, along_next}
+use Rattle.sheet_write.proofs.Walked.{none_from, may_add, ends, further, to_child, child_falls, next_falls, parts_are}
+use Rattle.sheet_write.proofs.Walked.{along_next}
 use Rattle.sheet_write.proofs.Walked.{above_stands, child_stands, next_stands, still_stands}
 use Prim.Native.Nat.{ℕ}
 use Rattle.sheet_write.proofs.+put_kits.Goals as goal
@@ -24,52 +25,40 @@ known t c =
 -- the node's own record is down, and those below it are to come
 below : (t : ℕ) (c : After-child_at-child t) →
     let N = c.args.nodes.now in
-    let w = c.args.w in
+    let w = bytes_of c.args.w in
     Rest c.args.out.now c.args.at (records_from w N c.args.link) c.put_node-own.new.out
     c.put_node-own.result (records_from w N c.child_at-child.result ++ records_from w N (next N c.loop-i.i))
 below t c =
     rest_put c.loop-i.invariant.3
-    (parts_are c.loop-i.invariant.0.reached c.loop-i-test.true c.args.w c.child_at-child.ensures.0 refl)
-    c.put_node-own.ensures.fact_1
-
-pub loop-i-init : goal.loop-i-init
-loop-i-init t c = (
-  along_start c.requires.0,
-  c.requires.1.0,
-  record { wide = refl; same = refl },
-  rest_start c.args.out.now c.args.at _ c.requires.1.1.1,
-)
-
-pub label_at-requires : goal.label_at-requires
-label_at-requires t c =
-    in_table c.loop-i.invariant.0.reached c.loop-i-test.true
+    (parts_are c.loop-i.invariant.0.reached c.loop-i-test.true (bytes_of c.args.w) c.child_at-child.ensures.0 refl)
+    c.put_node-own.ensures.put
 
 pub with_unit-end-requires : goal.with_unit-end-requires
 with_unit-end-requires t c =
     may_add c.loop-i.invariant.0.reached c.loop-i-test.true
 
-pub put_node-own-requires : goal.put_node-own-requires
-put_node-own-requires t c =
+pub put_node-own-requires-clause-ends : goal.put_node-own-requires-clause-ends
+put_node-own-requires-clause-ends t c =
     let N = c.args.nodes.now in
-    let w = c.args.w in
+    let w = bytes_of c.args.w in
     let i = c.loop-i.i in
     let reached = c.loop-i.invariant.0.reached in
     let n = c.loop-i-test.true in
-    record {
-      fact_1 = known t (goal.at.put_node-own-requires t c).After-with_unit-end;
-      fact_2 = c.requires.1.1.0;
-      fact_3 = above_stands reached n c.loop-i.invariant.1;
-      fact_4 = rest_room (own_record w N i) (records_from w N (child N i) ++ records_from w N (next N i)) c.loop-i.invariant.3 (parts_are reached n w refl refl);
-    }
+    known t (goal.at.put_node-own-requires-clause-ends t c).After-with_unit-end
 
-pub child_at-child-requires : goal.child_at-child-requires
-child_at-child-requires t c =
-    in_table c.loop-i.invariant.0.reached c.loop-i-test.true
+pub put_node-own-requires-clause-room : goal.put_node-own-requires-clause-room
+put_node-own-requires-clause-room t c =
+    let N = c.args.nodes.now in
+    let w = bytes_of c.args.w in
+    let i = c.loop-i.i in
+    let reached = c.loop-i.invariant.0.reached in
+    let n = c.loop-i-test.true in
+    rest_room (own_record w N i) (records_from w N (child N i) ++ records_from w N (next N i)) c.loop-i.invariant.3 (parts_are reached n w refl refl)
 
 pub put_kits-to-requires : goal.put_kits-to-requires
 put_kits-to-requires t c =
     let N = c.args.nodes.now in
-    let w = c.args.w in
+    let w = bytes_of c.args.w in
     let k = c.child_at-child.result in
     let reached = c.loop-i.invariant.0.reached in
     let n = c.loop-i-test.true in
@@ -80,15 +69,11 @@ put_kits-to-requires t c =
       (
         to_child reached n l u e,
         (
-          child_stands reached n l u e c.put_node-own.ensures.fact_2,
-          (c.requires.1.1.0, rest_room (records_from w N k) (records_from w N (next N c.loop-i.i)) (below t (goal.at.put_kits-to-requires t c).After-child_at-child) refl),
+          child_stands reached n l u e c.put_node-own.ensures.stands,
+          rest_room (records_from w N k) (records_from w N (next N c.loop-i.i)) (below t (goal.at.put_kits-to-requires t c).After-child_at-child) refl,
         ),
       ),
     )
-
-pub next_at-i-requires : goal.next_at-i-requires
-next_at-i-requires t c =
-    in_table c.loop-i.invariant.0.reached c.loop-i-test.true
 
 pub loop-i-smaller : goal.loop-i-smaller
 loop-i-smaller t c =
@@ -99,21 +84,15 @@ loop-i-preserved t c =
     let reached = c.loop-i.invariant.0.reached in
     let n = c.loop-i-test.true in
     let e = c.next_at-i.ensures.0 in
-    let node = kept_on c.put_node-own.ensures.fact_3 c.put_kits-to.ensures.1 (further (known t (goal.at.loop-i-preserved t c).After-with_unit-end) c.args.w) in (
+    let node = kept_on c.put_node-own.ensures.kept c.put_kits-to.ensures.kept
+    (further (known t (goal.at.loop-i-preserved t c).After-with_unit-end) (bytes_of c.args.w)) in (
       along_next c.loop-i.invariant.0 n e,
       next_stands reached n e (still_stands reached n node (above_stands reached n c.loop-i.invariant.1)),
       kept_on c.loop-i.invariant.2 node (omega arith),
-      rest_same (rest_put (below t (goal.at.loop-i-preserved t c).After-child_at-child) refl c.put_kits-to.ensures.0) (ap (records_from c.args.w c.args.nodes.now) (sym e)),
+      rest_same (rest_put (below t (goal.at.loop-i-preserved t c).After-child_at-child) refl c.put_kits-to.ensures.put)
+          (ap (records_from (bytes_of c.args.w) c.args.nodes.now) (sym e)),
     )
 
-pub shape_of-out : goal.shape_of-out
-shape_of-out t c =
-    c.loop-i.invariant.3.size
-
-pub shape_of-lines : goal.shape_of-lines
-shape_of-lines t c =
-    c.loop-i.invariant.2.wide
-
-pub returns : goal.returns
-returns t c =
-    (rest_end c.loop-i.invariant.3 (none_from c.args.w c.loop-i.invariant.0.reached c.loop-i-test.false), c.loop-i.invariant.2)
+pub returns-clause-put : goal.returns-clause-put
+returns-clause-put t c =
+    rest_end c.loop-i.invariant.3 (none_from (bytes_of c.args.w) c.loop-i.invariant.0.reached c.loop-i-test.false)

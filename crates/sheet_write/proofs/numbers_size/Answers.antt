@@ -1,7 +1,6 @@
 -- The bytes counted and those of the slots to come are all; at most 25 for each slot passed bound the sum.
 use mathlib.Core.Path.{◌≡◌, ap}
 use Prim.Native.Nat.{◌+◌, ◌-◌}
-use native.Mathlib.Nat.{sub-zero}
 use native.Mathlib.Omega.{arith}
 use lib.ListN.{length, length-append}
 use Rattle.register.specs.Register.{number_at}
@@ -9,22 +8,6 @@ use Rattle.sheet.specs.Sheet.{number_item}
 use Rattle.sheet_write.specs.Inner.{numbers_from}
 use Rattle.sheet_write.proofs.Records.{numbers_step, numbers_end, number_size}
 use Rattle.sheet_write.proofs.numbers_size.Goals as goal
-
-pub loop-k-init : goal.loop-k-init
-loop-k-init c = (omega arith, c.requires.fact_2, rw sub-zero (omega arith), omega arith)
-
-pub number_at-num-requires : goal.number_at-num-requires
-number_at-num-requires c =
-    record {
-      fact_1 = omega (arith, c.requires.fact_1.inside);
-      fact_2 = c.requires.fact_1.short c.loop-k.k (omega arith);
-    }
-
-pub overflow_add-total : goal.overflow_add-total
-overflow_add-total c = omega (arith, c.number_at-num.ensures.fact_3)
-
-pub overflow_add-total-in-loop-k : goal.overflow_add-total-in-loop-k
-overflow_add-total-in-loop-k c = omega (arith, c.number_at-num.ensures.fact_3)
 
 pub loop-k-preserved : goal.loop-k-preserved
 loop-k-preserved c =
@@ -34,13 +17,9 @@ loop-k-preserved c =
     let s = ap length (numbers_step R n k (omega arith)) in
     let a = length-append (number_item (number_at R k)) (numbers_from R (k + 1) (n - (k + 1))) in
     let z = number_size (number_at R k) in
-    let e : length c.number_at-num.result.now ≡ length (number_at R k) = ap length c.number_at-num.ensures.fact_2 in
-    (omega arith, omega arith, omega arith, omega (arith, c.number_at-num.ensures.fact_3))
+    let e : length c.number_at.result.now ≡ length (number_at R k) = ap length c.number_at.ensures.fact_2 in
+    (omega arith, omega (arith, c.number_at.ensures.fact_3))
 
-pub returns : goal.returns
-returns c =
-    record {
-      fact_1 = omega (arith, ap length (numbers_end c.args.reg.now c.args.n c.loop-k.k (omega arith)));
-      fact_2 = omega
-          arith;
-    }
+pub returns-clause-size : goal.returns-clause-size
+returns-clause-size c =
+    omega (arith, ap length (numbers_end c.args.reg.now c.args.n c.loop-k.k (omega arith)))

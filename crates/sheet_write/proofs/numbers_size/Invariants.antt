@@ -1,14 +1,10 @@
 use mathlib.Core.Path.{◌≡◌}
 use Prim.Native.Nat.{◌+◌, ◌-◌, ◌*◌, ◌≤◌}
 use lib.ListN.{length}
-use Rattle.ground.specs.Limits.{most_parts}
 use Rattle.sheet.specs.Inner.{most_item}
 use Rattle.sheet_write.specs.Inner.{numbers_from}
 use Rattle.sheet_write.proofs.numbers_size.Given as goal
 
 abbrev pub invariant-loop-k : goal.invariant-loop-k
 invariant-loop-k l =
-    (l.k ≤ l.n) × (l.n ≤ most_parts) × (l.total + length (numbers_from l.reg l.k (l.n - l.k)) ≡ length (numbers_from l.reg 0 l.n)) × (l.total ≤ most_item * l.k)
-
-abbrev pub decreases-loop-k : goal.decreases-loop-k
-decreases-loop-k l = l.n - l.k
+    (l.total + length (numbers_from l.reg l.k (l.n - l.k)) ≡ length (numbers_from l.reg 0 l.n)) × (l.total ≤ most_item * l.k)

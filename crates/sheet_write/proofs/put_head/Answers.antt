@@ -6,7 +6,7 @@ use native.Mathlib.Omega.{arith}
 use lib.ListN.{length}
 use borrow.Rule.Slice.PartMut.{put_mid}
 use Rattle.ground.specs.Laid.{Put}
-use Rattle.ground.proofs.Put.{tail_of, Rest, rest_behind, rest_lent, rest_fits, rest_inside, last_fits, last_lent, put_same, put_length}
+use Rattle.ground.proofs.Put.{tail_of, Rest, rest_behind, rest_lent, rest_fits, rest_inside, last_fits, last_lent, put_same}
 use Rattle.sheet.specs.Bytes.{two, in_bytes}
 use Rattle.sheet.specs.Sheet.{version}
 use Rattle.sheet.proofs.Numbers.{two_length}
@@ -22,9 +22,9 @@ first c =
     rest_behind (two (version c.args.parts) ++ two c.args.parts) (record { behind = refl; lies = c.copy_in.ensures }) refl
     c.requires
 
-version-down : (c : After-slice_known-3-1) →
+version_down : (c : After-slice_known-3-1) →
     Put (tail_of c.copy_in.new.out 3) 0 (two (version c.args.parts)) c.put_two-at.result c.put_two-at.new.out
-version-down c =
+version_down c =
     put_same c.put_two-at.ensures (ap two c.version.ensures)
 
 second : (c : After-slice_known-3-1) →
@@ -32,7 +32,7 @@ second : (c : After-slice_known-3-1) →
     (put_mid 3 (length c.copy_in.new.out - 3) c.copy_in.new.out c.put_two-at.new.out)
     (3 + c.put_two-at.result) (two c.args.parts)
 second c =
-    rest_lent (two (version c.args.parts)) (two c.args.parts) (first (goal.at.After-slice_known-3-1 c).After-slice_known-2-1) (version-down c)
+    rest_lent (two (version c.args.parts)) (two c.args.parts) (first (goal.at.After-slice_known-3-1 c).After-slice_known-2-1) (version_down c)
 
 pub copy_in-requires : goal.copy_in-requires
 unfolding head_items in_bytes
@@ -53,7 +53,7 @@ put_two-at-requires c =
 
 pub overflow_add-at : goal.overflow_add-at
 overflow_add-at c =
-    omega (arith, two_length (version c.args.parts), (version-down c).behind)
+    omega (arith, two_length (version c.args.parts), (version_down c).behind)
 
 pub slice_bounds-put_two-count-2 : goal.slice_bounds-put_two-count-2
 slice_bounds-put_two-count-2 c = omega (arith, (second c).room)
@@ -72,12 +72,8 @@ overflow_add-result c =
       two_length (version c.args.parts),
       two_length c.args.parts,
       c.put_two.ensures.behind,
-      (version-down (goal.at.overflow_add-result c).After-slice_known-3-1).behind,
+      (version_down (goal.at.overflow_add-result c).After-slice_known-3-1).behind,
     )
-
-pub shape_of-out : goal.shape_of-out
-shape_of-out c =
-    put_length (last_lent (second (goal.at.shape_of-out c).After-slice_known-3-1) c.put_two.ensures)
 
 pub returns : goal.returns
 returns c =

@@ -1,10 +1,7 @@
-use Prim.Native.Nat.{◌-◌, ◌≤◌}
+use Prim.Native.Nat.{◌-◌}
 use Rattle.ground.proofs.Put.{Rest}
 use Rattle.sheet_write.specs.Inner.{numbers_from}
 use Rattle.sheet_write.proofs.put_numbers.Given as goal
 
 abbrev pub invariant-loop-k : goal.invariant-loop-k
-invariant-loop-k l = (l.k ≤ l.n) × Rest l.initial.out 0 (numbers_from l.reg 0 l.n) l.out l.at (numbers_from l.reg l.k (l.n - l.k))
-
-abbrev pub decreases-loop-k : goal.decreases-loop-k
-decreases-loop-k l = l.n - l.k
+invariant-loop-k l = Rest l.initial.out 0 (numbers_from l.reg 0 l.n) l.out l.at (numbers_from l.reg l.k (l.n - l.k))

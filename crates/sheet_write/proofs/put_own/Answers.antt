@@ -1,4 +1,6 @@
 -- Without a tag there is no record; with one it is the tag and the lines of its row.
+use Rattle.sheet.proofs.Widths.{some_width}
+use Rattle.sheet.specs.Sheet.{bytes_of}
 use mathlib.Core.Path.{◌≡◌, ap, sym, ◌∙◌}
 use native.Mathlib.Omega.{arith}
 use Prim.Native.Nat.{◌+◌, ◌≤◌}
@@ -12,36 +14,28 @@ use Rattle.sheet_write.proofs.put_own.Goals as goal
 use Rattle.sheet_write.proofs.put_own.Goals.{Else-tag-eq0}
 
 own : (c : Else-tag-eq0) →
-    record_bytes c.args.w c.tag_at-tag.result c.args.lines.now ≡ own_record c.args.w c.args.nodes.now c.args.i
+    record_bytes (bytes_of c.args.w) c.tag_at-tag.result c.args.lines.now ≡ own_record (bytes_of c.args.w) c.args.nodes.now c.args.i
 own c =
-    ap (record_bytes c.args.w c.tag_at-tag.result) c.requires.fact_3
-    ∙ own_record_lem c.args.nodes.now c.requires.fact_1 c.args.i c.requires.fact_2 c.requires.fact_4 c.tag_at-tag.result
+    ap (record_bytes (bytes_of c.args.w) c.tag_at-tag.result) c.requires.lines
+    ∙ own_record_lem c.args.nodes.now c.requires.shape c.args.i c.requires.used (some_width c.args.w) c.tag_at-tag.result
     c.tag_at-tag.ensures c.if-tag-eq0.false
 
 fits : (c : Else-tag-eq0) →
-    c.args.at + length (record_bytes c.args.w c.tag_at-tag.result c.args.lines.now) ≤ length c.args.out.now
+    c.args.at + length (record_bytes (bytes_of c.args.w) c.tag_at-tag.result c.args.lines.now) ≤ length c.args.out.now
 fits c =
-    omega (arith, ap length (own c), c.requires.fact_5)
-
-pub tag_at-tag-requires : goal.tag_at-tag-requires
-tag_at-tag-requires c =
-    c.requires.fact_2.inside
+    omega (arith, ap length (own c), c.requires.room)
 
 pub returns-then-tag-eq0 : goal.returns-then-tag-eq0
 returns-then-tag-eq0 c =
     put_none c.args.out.now c.args.at
-    (own_none c.args.w c.args.nodes.now c.args.i (sym c.tag_at-tag.ensures ∙ c.if-tag-eq0.true))
+    (own_none (bytes_of c.args.w) c.args.nodes.now c.args.i (sym c.tag_at-tag.ensures ∙ c.if-tag-eq0.true))
 
 pub put_kit-requires : goal.put_kit-requires
-put_kit-requires c =
-    record {
-      fact_1 = (
-        row_count c.args.nodes.now c.requires.fact_1 c.args.i c.requires.fact_2 c.requires.fact_4 c.requires.fact_3,
-        room c.args.out.now c.args.at (length (record_bytes c.args.w c.tag_at-tag.result c.args.lines.now))
-            (fits (goal.at.put_kit-requires c).Else-tag-eq0),
-      );
-      fact_2 = c.requires.fact_4;
-    }
+put_kit-requires c = (
+  row_count c.args.nodes.now c.requires.shape c.args.i c.requires.used (some_width c.args.w) c.requires.lines,
+  room c.args.out.now c.args.at (length (record_bytes (bytes_of c.args.w) c.tag_at-tag.result c.args.lines.now))
+      (fits (goal.at.put_kit-requires c).Else-tag-eq0),
+)
 
 pub overflow_add-result : goal.overflow_add-result
 overflow_add-result c =

@@ -1,4 +1,6 @@
 -- The records of all that is below the root.
+use Rattle.sheet.proofs.Widths.{some_width}
+use Rattle.sheet.specs.Sheet.{bytes_of}
 use mathlib.Core.Path.{ap, ◌∙◌}
 use native.Mathlib.Omega.{arith}
 use lib.ListN.{length}
@@ -9,16 +11,14 @@ use Rattle.sheet_write.proofs.records_size.Goals as goal
 
 pub kits_size-requires : goal.kits_size-requires
 kits_size-requires c =
-    let e = c.child_at.ensures.0 in (
-      root_reached c.requires.fact_1 e c.none-none.ensures,
-      (c.requires.fact_2, rw e (records_most c.requires.fact_2 c.args.nodes.now c.requires.fact_1)),
-    )
-
-pub returns : goal.returns
-returns c =
-    let all = c.kits_size.ensures
-    ∙ ap (λ i. length (records_from c.args.w c.args.nodes.now i)) c.child_at.ensures.0 in
+    let e = c.child_at.ensures.0 in
     record {
-      fact_1 = all;
-      fact_2 = omega (arith, all, records_most c.requires.fact_2 c.args.nodes.now c.requires.fact_1);
+      reached = root_reached c.requires e c.none-none.ensures;
+      few = rw e (records_most (some_width c.args.w) c.args.nodes.now c.requires);
     }
+
+pub returns-clause-most : goal.returns-clause-most
+returns-clause-most c =
+    let all = c.kits_size.ensures
+    ∙ ap (λ i. length (records_from (bytes_of c.args.w) c.args.nodes.now i)) c.child_at.ensures.0 in
+    omega (arith, all, records_most (some_width c.args.w) c.args.nodes.now c.requires)

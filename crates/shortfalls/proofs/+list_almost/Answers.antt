@@ -2,8 +2,8 @@
 -- below it; a branch whose shortfall passes d is left out.
 use mathlib.Core.Path.{refl}
 use native.Mathlib.Omega.{arith}
-use Rattle.shortfalls.proofs.Walked.{link_inside, may_pass, none_at, Seen, in_table, to_next, to_child, room}
-use Rattle.shortfalls.proofs.Walked.{came_first, came_sizes, came_ends, came_past, came_on}
+use Rattle.shortfalls.proofs.Walked.{none_at, Seen, to_next, to_child, room}
+use Rattle.shortfalls.proofs.Walked.{came_ends, came_past, came_on}
 use Prim.Native.Nat.{ℕ}
 use Rattle.shortfalls.proofs.+list_almost.Goals as goal
 use Rattle.shortfalls.proofs.+list_almost.Goals.{After-pass-then}
@@ -21,25 +21,6 @@ v t c =
       q_is = c.pass-then.ensures;
     }
 
-pub loop-link-init : goal.loop-link-init
-loop-link-init t c =
-    came_first c.requires.0
-
-pub label_at-requires : goal.label_at-requires
-label_at-requires t c =
-    link_inside c.loop-link.invariant.knows c.loop-link-test.true
-
-pub pass-then-requires : goal.pass-then-requires
-pass-then-requires t c =
-    may_pass c.loop-link.invariant.knows c.loop-link-test.true c.label_at.ensures
-
-pub next_at-link-requires : goal.next_at-link-requires
-next_at-link-requires t c = in_table (v t c)
-
-pub tag_at-requires : goal.tag_at-requires
-tag_at-requires t c =
-    in_table (v t (goal.at.tag_at-requires t c).After-pass-then)
-
 pub put_both-k-requires : goal.put_both-k-requires
 put_both-k-requires t c =
     omega (
@@ -49,14 +30,11 @@ put_both-k-requires t c =
       room (v t (goal.at.put_both-k-requires t c).After-pass-then) c.if-then-d.true refl c.next_at-link.ensures.0 c.tag_at.ensures,
     )
 
-pub child_at-child-requires : goal.child_at-child-requires
-child_at-child-requires t c =
-    in_table (v t (goal.at.child_at-child-requires t c).After-pass-then)
-
 pub list_almost-k-requires : goal.list_almost-k-requires
 list_almost-k-requires t c =
-    let h = to_child (v t (goal.at.list_almost-k-requires t c).After-pass-then) c.if-then-d.true c.child_at-child.ensures.0 in
-    let many = room (v t (goal.at.list_almost-k-requires t c).After-pass-then) c.if-then-d.true c.child_at-child.ensures.0 c.next_at-link.ensures.0
+    let known = goal.at.list_almost-k-requires t c in
+    let h = to_child (v t known.After-pass-then) c.if-then-d.true c.child_at-child.ensures.0 in
+    let many = room (v t known.After-pass-then) c.if-then-d.true c.child_at-child.ensures.0 c.next_at-link.ensures.0
     c.tag_at.ensures in
     (h.0, (h.1, omega (arith, c.requires.1, c.put_both-k.ensures.one.behind, came_ends c.loop-link.invariant, many)))
 
@@ -66,7 +44,8 @@ loop-link-smaller-then-child-ne0 t c =
 
 pub loop-link-preserved-then-child-ne0 : goal.loop-link-preserved-then-child-ne0
 loop-link-preserved-then-child-ne0 t c =
-    came_on c.loop-link.invariant (v t (goal.at.loop-link-preserved-then-child-ne0 t c).After-pass-then) c.next_at-link.ensures.0 c.if-then-d.true c.child_at-child.ensures.0
+    let known = goal.at.loop-link-preserved-then-child-ne0 t c in
+    came_on c.loop-link.invariant (v t known.After-pass-then) c.next_at-link.ensures.0 c.if-then-d.true c.child_at-child.ensures.0
     c.tag_at.ensures c.put_both-k.ensures c.list_almost-k.ensures
 
 pub loop-link-smaller-else-child-ne0 : goal.loop-link-smaller-else-child-ne0
@@ -75,8 +54,9 @@ loop-link-smaller-else-child-ne0 t c =
 
 pub loop-link-preserved-else-child-ne0 : goal.loop-link-preserved-else-child-ne0
 loop-link-preserved-else-child-ne0 t c =
-    let h = to_child (v t (goal.at.loop-link-preserved-else-child-ne0 t c).After-pass-then) c.if-then-d.true c.child_at-child.ensures.0 in
-    came_on c.loop-link.invariant (v t (goal.at.loop-link-preserved-else-child-ne0 t c).After-pass-then) c.next_at-link.ensures.0 c.if-then-d.true c.child_at-child.ensures.0
+    let known = goal.at.loop-link-preserved-else-child-ne0 t c in
+    let h = to_child (v t known.After-pass-then) c.if-then-d.true c.child_at-child.ensures.0 in
+    came_on c.loop-link.invariant (v t known.After-pass-then) c.next_at-link.ensures.0 c.if-then-d.true c.child_at-child.ensures.0
     c.tag_at.ensures c.put_both-k.ensures (none_at h.1 c.if-child-ne0.false)
 
 pub loop-link-smaller : goal.loop-link-smaller
@@ -86,14 +66,6 @@ loop-link-smaller t c =
 pub loop-link-preserved : goal.loop-link-preserved
 loop-link-preserved t c =
     came_past c.loop-link.invariant (v t (goal.at.loop-link-preserved t c).After-pass-then) c.next_at-link.ensures.0 c.if-then-d.false
-
-pub shape_of-tags : goal.shape_of-tags
-shape_of-tags t c =
-    (came_sizes c.loop-link.invariant).0
-
-pub shape_of-shorts : goal.shape_of-shorts
-shape_of-shorts t c =
-    (came_sizes c.loop-link.invariant).1
 
 pub returns : goal.returns
 returns t c =

@@ -9,20 +9,13 @@ use Rattle.shortfalls.specs.Inner.{almost}
 use Rattle.shortfalls.proofs.Answered.{tags_are, shorts_are, all_refused, all_done}
 use Rattle.shortfalls.proofs.all_almost.Goals as goal
 
-pub set_quantities-requires : goal.set_quantities-requires
-set_quantities-requires c =
-    record {
-      fact_1 = c.requires.fact_2.0;
-      fact_2 = refl;
-    }
-
 pub returns-then-kit_count-room : goal.returns-then-kit_count-room
 returns-then-kit_count-room c =
     let a = c.args in
     let S = c.requires.fact_1.shape in
     let ts = tags_are a.d a.bin.now S c.requires.fact_2.0 c.set_quantities.ensures in
     let ss = shorts_are a.d a.bin.now S c.requires.fact_2.0 c.set_quantities.ensures in
-    all_done ts ss a.tags.now a.shorts.now c.least-room.ensures c.set_almost.ensures refl refl
+    all_done ts ss a.tags.now a.shorts.now c.min-room.ensures c.set_almost.ensures refl refl
     (omega (
       arith,
       no_more_than_kits S (almost c.set_quantities.new.amounts a.d) (tag a.nodes.now) c.set_almost.ensures.one
@@ -36,7 +29,7 @@ returns-then-room-need c =
     let S = c.requires.fact_1.shape in
     let ts = tags_are a.d a.bin.now S c.requires.fact_2.0 c.set_quantities.ensures in
     let ss = shorts_are a.d a.bin.now S c.requires.fact_2.0 c.set_quantities.ensures in
-    all_refused ts ss a.tags.now a.shorts.now c.least-room.ensures c.set_almost-need.ensures
+    all_refused ts ss a.tags.now a.shorts.now c.min-room.ensures c.set_almost-need.ensures
     (none_lent c.set_almost-need.ensures.one) (none_lent c.set_almost-need.ensures.two)
     c.if-room-need.true
 
@@ -46,6 +39,6 @@ returns c =
     let S = c.requires.fact_1.shape in
     let ts = tags_are a.d a.bin.now S c.requires.fact_2.0 c.set_quantities.ensures in
     let ss = shorts_are a.d a.bin.now S c.requires.fact_2.0 c.set_quantities.ensures in
-    all_done ts ss a.tags.now a.shorts.now c.least-room.ensures c.set_almost-need.ensures
+    all_done ts ss a.tags.now a.shorts.now c.min-room.ensures c.set_almost-need.ensures
     (none_lent c.set_almost-need.ensures.one) (none_lent c.set_almost-need.ensures.two)
     c.if-room-need.false c.set_almost-2.ensures

@@ -1,9 +1,6 @@
--- The place reached is inside the words and moves on each time, so what is left falls to none.
-use Rattle.std.proofs.Common.{◌≤◌, ◌-◌, length}
+-- The chunks keep their size, so each goes through the buffer.
+use Rattle.std.proofs.Common.{◌≡◌}
 use Rattle.probe.proofs.writing.write_words.Given as goal
 
-abbrev pub invariant-loop-done : goal.invariant-loop-done
-invariant-loop-done l = l.done ≤ length l.words
-
-abbrev pub decreases-loop-done : goal.decreases-loop-done
-decreases-loop-done l = length l.words - l.done
+abbrev pub invariant-loop-words : goal.invariant-loop-words
+invariant-loop-words l = l.words-iterator.size ≡ 2048
