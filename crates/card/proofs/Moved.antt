@@ -1,34 +1,62 @@
--- A line put in the room that words moved up by a line leave.
-use mathlib.Core.Path.{◌≡◌, ◌∙◌}
-use mathlib.Core.List.{List, [], ◌∷◌, ◌++◌, append_assoc}
-use Prim.Native.Nat.{ℕ, ◌+◌, ◌-◌, ◌≤◌, ◌<◌}
+-- Words moved up from the top down: what is laid with one word more in front of it.
+use mathlib.Core.Path.{◌≡◌, refl, ap, sym, ◌∙◌}
+use mathlib.Core.List.{List, [], ◌∷◌, ◌++◌}
+use Prim.Native.Nat.{ℕ, suc, ◌+◌, ◌-◌, ◌≤◌, ◌<◌}
 use native.Mathlib.Numerals.{add-one}
 use native.Mathlib.Omega.{arith}
-use lib.ListN.{length, take, drop, set, length-append, length-drop}
-use lib.Seq.{length-take-le, take-take, drop_at, sets-eq, take-set-lt}
-use Rattle.std.specs.List.{copy_within}
-use Rattle.std.proofs.lemmas.Slice.{between_is}
-use Rattle.std.proofs.lemmas.List.{take-append-le}
-use Rattle.std.proofs.lemmas.List.Edits.{take-paste}
+use lib.ListN.{length, take, drop, set, get_or, length-take, length-drop}
+use lib.Seq.{set_comm, get_or-set_other, get_or-take, drop-cons, drop-length, length-take-le}
+use Rattle.ground.specs.Laid.{laid}
+use Rattle.ground.proofs.Laid.{laid_nil, laid_cons, take_laid}
 use Rattle.sheet.specs.Sheet.{line_words}
 
-pub line_put : (l : List ℕ) (words at place quantity : ℕ) → at ≤ words → words + line_words ≤ length l →
-    take (words + line_words) (set (set (copy_within l at words (at + line_words)) at place) (at + 1) quantity) ≡
-    take at l ++ (place ∷ quantity ∷ drop at (take words l))
-line_put l words at place quantity h g =
-    let front = take (at + line_words) l in
-    let up = take (words - at) (drop at l) in
-    let line = place ∷ quantity ∷ [] in
-    let n : words + line_words ≡ at + line_words + (words - at) = omega arith in
-    let moved : take (words + line_words) (copy_within l at words (at + line_words)) ≡ front ++ up =
-    rw n (take-paste l (at + line_words) (drop at l) (words - at) (omega arith) (rw length-drop (omega arith))) in
-    let k : length front ≡ at + line_words = length-take-le (at + line_words) l (omega arith) in
-    let low = take at (front ++ up) in
-    let high = drop (at + line_words) (front ++ up) in
-    let put : set (set (front ++ up) at place) (at + 1) quantity ≡ low ++ (place ∷ quantity ∷ high) =
-    rw add-one (sets-eq line (front ++ up) at (simp length-append (omega arith)) ∙ append_assoc low line high) in
-    let low_is : low ≡ take at l = take-append-le at front up (omega arith) ∙ take-take at (at + line_words) l (omega arith) in
-    let high_is : high ≡ drop at (take words l) = drop_at front up (at + line_words) k ∙ between_is l at words in
-    let i : at < words + line_words = omega arith in
-    let j : at + 1 < words + line_words = omega arith in
-    rw (take-set-lt, take-set-lt, moved, put, low_is, high_is)
+-- a word in front of what is laid stays
+laid_under : (l : List ℕ) (a k : ℕ) (bs : List ℕ) → k < a → get_or (laid l a bs) k 0 ≡ get_or l k 0
+unfolding laid
+laid_under l a k [] h = refl
+laid_under l a k (b ∷ bs) h = laid_under (set l a b) (suc a) k bs (omega arith) ∙ get_or-set_other l a k b 0 (λ e. omega arith)
+
+set_under : (l : List ℕ) (a k b : ℕ) (bs : List ℕ) → k < a → set (laid l a bs) k b ≡ laid (set l k b) a bs
+unfolding laid
+set_under l a k b [] h = refl
+set_under l a k b (c ∷ bs) h =
+    set_under (set l a c) (suc a) k b bs (omega arith) ∙ ap (λ (x : List ℕ). laid x (suc a) bs) (set_comm l a k c b (λ e. omega arith))
+
+-- one word set just in front of what is laid
+pub set_before : (l : List ℕ) (a b : ℕ) (bs : List ℕ) → set (laid l (a + 1) bs) a b ≡ laid l a (b ∷ bs)
+set_before l a b bs = set_under l (a + 1) a b bs (omega arith) ∙ laid_cons l a b bs
+
+-- Of a list l of so many words, those from i on stand a line higher
+module _ (l : List ℕ) (words : ℕ) where
+  abbrev pub moved : ℕ → List ℕ
+  moved i = laid l (i + line_words) (drop i (take words l))
+
+  pub moved_none : words ≤ length l → l ≡ moved words
+  moved_none h =
+      let n = length-take-le words l h in
+      let e : drop words (take words l) ≡ [] = ap (λ k. drop k (take words l)) (sym n) ∙ drop-length (take words l) in
+      rw e (sym (laid_nil l (words + line_words)))
+
+  -- one more moved
+  pub moved_more : (m : List ℕ) (i : ℕ) → 0 < i → i ≤ words → words ≤ length l → m ≡ moved i → set m (i - 1 + line_words) (get_or m (i - 1) 0) ≡ moved (i - 1)
+  moved_more m i s h g e =
+      let j = i - 1 in
+      let t = take words l in
+      let n : j < length t = rw (length-take-le words l g) (omega arith) in
+      let d : drop j t ≡ get_or l j 0 ∷ drop (j + 1) t = drop-cons t j 0 n ∙ rw (add-one, get_or-take words l j 0 (omega arith)) in
+      let up : i ≡ j + 1 = omega arith in
+      let is : m ≡ laid l (j + line_words + 1) (drop (j + 1) t) = e ∙ ap moved up ∙ ap (λ k. laid l k (drop (j + 1) t)) (omega arith) in
+      let b : get_or m j 0 ≡ get_or l j 0 = rw is (laid_under l (j + line_words + 1) j (drop (j + 1) t) (omega arith)) in
+      rw (b, d) (ap (λ (x : List ℕ). set x (j + line_words) (get_or l j 0)) is ∙ set_before l (j + line_words) (get_or l j 0) (drop (j + 1) t))
+
+  -- the line is set down in the room made, and the front is what it was
+  pub line_put : (m : List ℕ) (at place quantity : ℕ) → at ≤ words → words + line_words ≤ length l → m ≡ moved at →
+      take (words + line_words) (set (set m (at + 1) quantity) at place) ≡ take at l ++ (place ∷ quantity ∷ drop at (take words l))
+  line_put m at place quantity h g is =
+      let t = drop at (take words l) in
+      let bs = place ∷ quantity ∷ t in
+      let w : at + line_words ≡ at + 1 + 1 = omega arith in
+      let n : at + length bs ≡ words + line_words = simp (length-drop, length-take) (omega arith) in
+      let e : set (set m (at + 1) quantity) at place ≡ laid l at bs =
+      rw (is, w, set_before l (at + 1) quantity t) (set_before l at place (quantity ∷ t)) in
+      rw (e, ← n) (take_laid l at bs (omega arith))

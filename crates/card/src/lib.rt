@@ -47,7 +47,8 @@ pub fn number_before(a: &[u8], b: &[u8]) -> bool
     a < b
 }
 
-// Sets a line down at a word of a list of so many words: what stood from there on moves up by a line.
+// Sets a line down at a word of a list of so many words: what stood from there on moves up by a line. (By index, not by `copy_within`: that is a call
+// of `memmove`, as `copy_in` of ground says.)
 pub fn put_line_at(list: &mut [u16], words: usize, at: usize, place: u16, quantity: u16)
     requires inside { at ≤ words }
     requires room { words + line_words ≤ length list.old }
@@ -55,7 +56,9 @@ pub fn put_line_at(list: &mut [u16], words: usize, at: usize, place: u16, quanti
         take at list.old ++ (place ∷ quantity ∷ drop at (take words list.old)) }
     ensures len { length list.new ≡ length list.old }
 {
-    list.copy_within(at..words, at + LINE_WORDS);
-    list[at] = place;
+    for i in (at..words).rev() {
+        list[i + LINE_WORDS] = list[i];
+    }
     list[at + 1] = quantity;
+    list[at] = place;
 }

@@ -4,6 +4,7 @@
 ghost use Rattle.std.specs.Prelude.{◌≡◌, ◌*◌, length, take, replicate};
 ghost use Rattle.register.specs.Register.{slot_bytes};
 ghost use Rattle.nodes.specs.Nodes.{words_per_node};
+ghost use Rattle.ground.specs.Tables.{tables};
 ghost use Rattle.desk_lines.specs.Sizes.{desk_slots, desk_nodes, output_places, sheet_bytes, begun_desk};
 ghost use Rattle.desk_lines.specs.Desk.{left_by};
 ghost use Rattle.desk_lines.specs.Inner.{Room};
@@ -35,21 +36,21 @@ const PIECE_BYTES: usize = 4096;
 // Room for the longest reply, the one to W: its head, a space, two digits for each byte of the sheet, and a line feed.
 const REPLY_BYTES: usize = 16640;
 
-// What the desk has at hand: its tables, the outputs that it lends, and room for a reply.
+// What the desk has at hand: its tables, and the outputs that it lends. (The room for a reply is an array of its own: where a sheet and its reply were in
+// one struct LLVM made no vectors of setting the one down in the other, and `W` with a full register took four times as long.)
 #[derive(Drop)]
 struct Desk {
     reg: [u8; SLOTS * register::SLOT_BYTES],
     nodes: [u16; NODES * nodes::WORDS],
     places: [u16; OUTPUT_PLACES],
     sheet: [u8; SHEET_BYTES],
-    out: [u8; REPLY_BYTES],
 }
 
 impl Desk {
     // Answers a line, and writes the reply out. A write that fails is not reported: whoever asked is gone.
-    fn reply_to(&mut self, stdout: &mut Stdout, line: &[u8])
-        requires { DeskAtHand self.old }
-        ensures at_hand { DeskAtHand self.new }
+    fn reply_to(&mut self, stdout: &mut Stdout, line: &[u8], out: &mut [u8])
+        requires { DeskAtHand self.old out.old }
+        ensures at_hand { DeskAtHand self.new out.new }
         ensures left { tables_of self.new ≡ left_by line.now (tables_of self.old) }
     {
         let n = answer_line(
@@ -58,9 +59,9 @@ impl Desk {
             &mut self.nodes,
             &mut self.places,
             &mut self.sheet,
-            &mut self.out,
+            out,
         );
-        let _ = stdout.write_all(&self.out[..n]);
+        let _ = stdout.write_all(&out[..n]);
     }
 
     // Takes a piece of the input behind the `from` bytes kept of a line that has not ended, and answers every line that it ends: how many bytes
@@ -71,11 +72,12 @@ impl Desk {
         piece: &[u8],
         kept: &mut [u8],
         from: usize,
+        out: &mut [u8],
     ) -> usize
         requires keeps { Keeps kept.old from }
-        requires at_hand { DeskAtHand self.old }
+        requires at_hand { DeskAtHand self.old out.old }
         ensures takes { Takes (take from kept.old) piece.now (tables_of self.old) result kept.new (tables_of self.new) }
-        ensures at_hand { DeskAtHand self.new }
+        ensures at_hand { DeskAtHand self.new out.new }
     {
         let mut n = from;
         let mut at = 0;
@@ -85,7 +87,7 @@ impl Desk {
             if end == piece.len() {
                 return n;
             }
-            self.reply_to(stdout, &kept[..n]);
+            self.reply_to(stdout, &kept[..n], out);
             n = 0;
             at = end + 1;
         }
@@ -94,11 +96,18 @@ impl Desk {
 
     // Reads the input to its end, piece by piece, and answers its lines, from empty tables on. The last line may lack its line feed. A read that
     // fails ends the input as its end does.
-    fn serve(&mut self, stdin: &mut Stdin, stdout: &mut Stdout, kept: &mut [u8], piece: &mut [u8])
+    fn serve(
+        &mut self,
+        stdin: &mut Stdin,
+        stdout: &mut Stdout,
+        kept: &mut [u8],
+        piece: &mut [u8],
+        out: &mut [u8],
+    )
         requires keeps { Keeps kept.old 0 }
-        requires begun { tables_of self.old ≡ begun_desk }
-        requires room { Room self.old.places self.old.sheet self.old.out }
-        ensures { Serves (tables_of self.new) }
+        requires begun { tables self.old.reg self.old.nodes ≡ begun_desk }
+        requires room { Room self.old.places self.old.sheet out.old }
+        ensures { Serves (tables self.new.reg self.new.nodes) }
     {
         let mut n = 0;
         // A proved loop has to end, and nothing says that the input does: these are more turns than any run has pieces.
@@ -107,12 +116,12 @@ impl Desk {
             if got == 0 {
                 break;
             }
-            n = self.take_piece(stdout, &piece[..got], kept, n);
+            n = self.take_piece(stdout, &piece[..got], kept, n, out);
         }
         if n == 0 {
             return;
         }
-        self.reply_to(stdout, &kept[..n]);
+        self.reply_to(stdout, &kept[..n], out);
     }
 }
 
@@ -160,9 +169,15 @@ fn main(rt: HostRuntime) {
         nodes: empty_nodes(),
         places: output_places(),
         sheet: sheet_room(),
-        out: reply_room(),
     };
+    let mut out = reply_room();
     let mut kept = line_room();
     let mut piece = [0u8; PIECE_BYTES];
-    desk.serve(&mut rt.stdin(), &mut rt.stdout(), &mut kept, &mut piece);
+    desk.serve(
+        &mut rt.stdin(),
+        &mut rt.stdout(),
+        &mut kept,
+        &mut piece,
+        &mut out,
+    );
 }

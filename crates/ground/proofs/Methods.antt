@@ -1,18 +1,13 @@
 -- What std's methods on slices and ranges give, in the words of specs/.
-use mathlib.Core.Path.{◌≡◌, ap, refl, sym}
+use mathlib.Core.Path.{◌≡◌, ap, refl}
 use mathlib.Core.Bool.{Bool, ◌&&◌, ◌||◌}
 use mathlib.Core.List.{List, [], ◌∷◌}
-use Prim.Native.Nat.{ℕ, zero, suc, ◌+◌, ◌≤◌}
+use Prim.Native.Nat.{ℕ, zero, suc}
 use native.Mathlib.Numerals.{add-one}
-use lib.ListN.{length}
-use lib.Seq.{drop-drop}
 use lib.Dec.{eqb}
 use lib.Pointwise.{pointwise}
-use borrow.Rule.Slice.PartMut.{put_mid}
 use Rattle.std.specs.List.{list_all, list_any, range_with_len}
 use Rattle.ground.specs.Lists.{allb, anyb, eq_list, from}
-use Rattle.ground.specs.Laid.{laid}
-use Rattle.ground.proofs.Laid.{laid_is}
 
 -- `iter().all(..)` and `iter().any(..)`
 pub all_is : {A : Type 0} (p : A → Bool) (l : List A) → list_all p l ≡ allb p l
@@ -38,7 +33,3 @@ pub range_is : (a n : ℕ) → range_with_len a n ≡ from a n
 unfolding from
 range_is a zero = refl
 range_is a (suc n) = rw add-one (ap (◌∷◌ a) (range_is (suc a) n))
-
--- `l[a..end].copy_from_slice(bs)`
-pub copied_is : (l : List ℕ) (a k : ℕ) (bs : List ℕ) → k ≡ length bs → a + length bs ≤ length l → put_mid a k l bs ≡ laid l a bs
-copied_is l a k bs e h = rw (e, drop-drop) (sym (laid_is l a bs h))

@@ -89,10 +89,10 @@ pub fn read_words<'a>(stdin: &mut Stdin, room: &'a mut [u16]) -> Result<&'a mut 
     Ok(block)
 }
 
-// Fills a block with words, as many at once as go through the buffer.
+// Fills a block with words, as many at once as go through the buffer. (Made where there is something to read: most blocks of a request are empty.)
 fn fill_words(stdin: &mut Stdin, block: &mut [u16]) -> Result<(), Stop> {
-    let mut bytes = [0u8; BYTES_AT_ONCE];
     for words in block.chunks_mut(WORDS_AT_ONCE) {
+        let mut bytes = [0u8; BYTES_AT_ONCE];
         let size = words.len() * 2;
         fill(stdin, &mut bytes[..size])?;
         put_words(words, &bytes);

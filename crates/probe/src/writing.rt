@@ -42,8 +42,8 @@ fn write_bytes(stdout: &mut Stdout, bytes: &[u8]) {
 // Writes a block of words, as many at once as go through the buffer. (Bytes go by themselves: one function for both would take the way as a parameter.)
 fn write_words(stdout: &mut Stdout, block: &[u16]) {
     write_count(stdout, block.len());
-    let mut bytes = [0u8; BYTES_AT_ONCE];
     for words in block.chunks(WORDS_AT_ONCE) {
+        let mut bytes = [0u8; BYTES_AT_ONCE];
         let size = words.len() * 2;
         put_bytes(&mut bytes, words);
         write_out(stdout, &bytes[..size]);

@@ -1,13 +1,17 @@
 -- The version of so many parts, and the width of a place in it: what holds of one byte and of two holds of every width.
 use mathlib.Core.Path.{◌≡◌, refl}
 use mathlib.Core.Bool.{Bool, true, false, cond}
-use Prim.Native.Nat.{ℕ, zero, suc, ◌*◌, ◌/◌, ◌^◌, ◌≤◌, ◌<◌}
+use mathlib.Core.List.{List}
+use Prim.Native.Nat.{ℕ, zero, suc, ◌*◌, ◌/◌, ◌%◌, ◌^◌, ◌≤◌, ◌<◌}
 use native.Mathlib.Omega.{arith}
+use lib.ListN.{take, set}
 use lib.Dec.{leb, eqb}
 use borrow.Author.Tests.{leb-true, leb-false, le-leb, eq-eqb}
 use Rattle.ground.specs.Limits.{byte_limit, most_parts}
 use Rattle.ground.specs.Lists.{anyb, every}
-use Rattle.sheet.specs.Bytes.{from_bytes, two}
+use Rattle.ground.specs.Laid.{Put}
+use Rattle.ground.proofs.Put.{put_one}
+use Rattle.sheet.specs.Bytes.{from_bytes, in_bytes, two, two_bytes}
 use Rattle.sheet.specs.Sheet.{most_narrow, version, bytes_of, line_bytes}
 use Rattle.sheet.specs.declared.Width as places
 use Rattle.sheet.specs.declared.Width.TheVariants.{Narrow, Wide}
@@ -87,3 +91,18 @@ module _ (n : ℕ) where
   count_good h =
       let e : from_bytes (two n) ≡ n = two_back n (omega arith) in
       rw (e, version_back, le-leb n most_parts h, eq-eqb (version n) (version n) refl)
+
+------------------------------------------------------------------------
+-- A place of two bytes, and of one
+
+pub wide_value : {w x : ℕ} (bs : List ℕ) → w ≡ 2 → x ≡ from_bytes (take two_bytes bs) → x ≡ from_bytes (take w bs)
+wide_value bs e h = rw e h
+
+pub wide-place : {w r : ℕ} {l m : List ℕ} (p : ℕ) → w ≡ 2 → Put l 0 (two p) r m → Put l 0 (in_bytes w p) r m
+wide-place p e h = rw e h
+
+pub narrow-place : {w : ℕ} (p : ℕ) (l : List ℕ) → Width w → (w ≡ 2 → ⊥) → Put l 0 (in_bytes w p) w (set l 0 (p % byte_limit))
+unfolding in_bytes
+narrow-place {w} p l h n =
+    let e : w ≡ 1 = omega (arith, h.some_byte, h.few_bytes) in
+    rw e (put_one l 0 (p % byte_limit))

@@ -86,3 +86,8 @@ compared_less a b = go (before a b) (eq_list a b)
     go true t = refl
     go false true = refl
     go false false = refl
+
+-- a tag that is none before it leaves it to the lines
+pub lines-decide : (marks : List ℕ) (t : ℕ) (lines : Bool) → (t ≡ 0 → ⊥) → get_or marks t 0 ≡ 0 → lines ≡ (new_tag marks t && lines)
+unfolding new_tag
+lines-decide marks t lines f z = rw (ne_eqb t 0 f, eq-eqb (get_or marks t 0) 0 z)

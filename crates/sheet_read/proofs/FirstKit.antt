@@ -1,24 +1,24 @@
 -- The first of the kits read, which alone can be empty: which of them have a unit where it is, and where it is not.
 use Rattle.std.specs.Prelude.{Some}
 use mathlib.Core.Path.{◌≡◌, refl, ap, sym, ◌∙◌}
-use mathlib.Core.Bool.{Bool, true, false, ◌&&◌, cond}
+use mathlib.Core.Bool.{Bool, true, false, ◌&&◌, ◌||◌, cond}
 use mathlib.Core.List.{List, [], ◌∷◌}
 use Prim.Native.Nat.{ℕ, zero, suc, ◌+◌, ◌-◌, ◌≤◌, ◌<◌}
 use native.Mathlib.Nat.{sub-zero}
 use native.Mathlib.Omega.{arith}
 use lib.ListN.{length, drop}
 use lib.Dec.{ltb}
-use borrow.Author.Tests.{lt-ltb, le-ltb, ltb-true, ltb-false, eqb-true, eqb-false}
+use borrow.Author.Tests.{le-ltb, ltb-true, ltb-false, eqb-true, eqb-false}
 use Rattle.ground.specs.Lists.{is_zero, keep}
 use Rattle.ground.specs.Laid.{zeroed}
 use Rattle.ground.proofs.Laws.{and_left, and_right}
 use Rattle.kits.specs.Kits.{most_units, units, fixed_row}
-use Rattle.kits.specs.declared.Row.{Row}
 use Rattle.kits.proofs.Rows.{row_back}
 use Rattle.nodes.specs.Held.{Kit, all_beginnings, some_unit, with_units}
 use Rattle.nodes.proofs.Lists.{never}
 use Rattle.nodes.proofs.Units.{is_some_unit, no_unit, units_beginnings}
 use Rattle.index_insert.specs.Enter.{enter_all}
+use Rattle.sheet.specs.Bytes.{two_bytes}
 use Rattle.sheet.specs.Reading.{record_size, kit_in}
 use Rattle.sheet.specs.Inner.{record_at, list_at, WholeAt, record_end}
 use Rattle.sheet.proofs.Places.{row_is, end_whole}
@@ -112,3 +112,13 @@ module _ {w : ℕ} {s : List ℕ} {at m : ℕ} {N : List ℕ} (K : KitsStand w s
           let u : 0 < length first.row = omega (arith, ap length (row_is w s at), eqb-false (length (units (list_at w s at))) 0 y) in
           let some = is_some_unit first u in
           units_read h ∙ rw some refl
+
+------------------------------------------------------------------------
+-- What is torn, and what stands where it was computed
+
+pub none-missing : (kept n announced : ℕ) → n ≡ announced → (remains : Bool) → n ≤ kept → remains ≡ (ltb kept announced || remains)
+none-missing kept n announced is remains h = rw (← is, le-ltb kept n h)
+
+pub stand-there : {w v at end : ℕ} → w ≡ v → at ≡ end → (s : List ℕ) (m : ℕ) (N : List ℕ) →
+    KitsStand v s (end + two_bytes) m N → KitsStand w s (at + two_bytes) m N
+stand-there wide ends s m N K = rw (wide, ends) K

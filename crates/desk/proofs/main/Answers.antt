@@ -8,5 +8,5 @@ serve-requires c =
     record {
       keeps = keeps_none _ c.line_room-kept.ensures;
       begun = begun_tables _ _ c.empty_register.ensures.1 c.empty_nodes.ensures.1;
-      room = room_enough _ _ _ c.output_places.ensures c.sheet_room.ensures c.reply_room.ensures;
+      room = room_enough _ _ _ c.output_places.ensures c.sheet_room.ensures c.reply_room-out.ensures;
     }

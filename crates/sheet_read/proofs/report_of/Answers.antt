@@ -1,6 +1,5 @@
 -- Done, the value stands in the first place; refused, in the third.
-use mathlib.Core.Path.{◌≡◌, refl, ap, ◌∙◌}
-use mathlib.Core.Bool.{true}
+use mathlib.Core.Path.{refl, ap, ◌∙◌}
 use Rattle.ground.specs.Calls.{is_refused}
 use Rattle.answers.specs.Answers.{reply}
 use Rattle.answers.proofs.Answers.{refuses}

@@ -6,4 +6,4 @@ use Rattle.desk.proofs.Desk.serve.Given as goal
 
 abbrev pub invariant-pieces : goal.invariant-pieces
 invariant-pieces l =
-    Keeps l.kept l.n × DeskAtHand l.self × Read l.kept l.n (tables_of l.self)
+    Keeps l.kept l.n × DeskAtHand l.self l.out × Read l.kept l.n (tables_of l.self)
